@@ -1,0 +1,4 @@
+pub mod Build
+pub mod Machine
+pub mod Partition
+pub mod Quotient

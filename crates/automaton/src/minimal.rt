@@ -1,0 +1,21 @@
+// The quotient of a machine by its classes.
+use crate::signature::class_of;
+use crate::signature::index;
+ghost use mathlib.Core.Path.{_≡_};
+ghost use mathlib.Core.List.{_++_};
+ghost use Prim.Native.Nat.{_*_};
+ghost use lib.ListN.{drop};
+ghost use Rattle.automaton.specs.Quotient.{quotientRows, Divisible};
+
+// Writes a row for each class: the classes behind its first member, 255 for a trip.
+pub fn quotient(next: &[u16], classes: &[u8], firsts: &[usize], actions: usize, count: usize, out: &mut [u8])
+    requires { ⌜ Divisible actions count (now next) (now firsts) (now out) ⌝ }
+    ensures { λ _. ⌜ now (out .exit) ≡ quotientRows actions count (now (next .entry)) (now (classes .entry)) (now (firsts .entry)) ++ drop (count * actions) (now (out .entry)) ⌝ }
+{
+    let mut k = 0;
+    while k < count * actions {
+        let from = firsts[k / actions] * actions;
+        out[k] = class_of(classes, index(next[from + k % actions]));
+        k += 1;
+    }
+}

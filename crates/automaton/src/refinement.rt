@@ -1,0 +1,88 @@
+// Partition refinement, pass by pass, until a pass finds no class more.
+use crate::Refined;
+use crate::signature::same_signature;
+ghost use mathlib.Core.Path.{_≡_};
+ghost use Prim.Native.Nat.{ℕ, _+_, _*_, _≤_, _<_};
+ghost use lib.ListN.{length, replicate};
+ghost use Rattle.automaton.specs.Machine.{Machine, AlikeStates};
+ghost use Rattle.automaton.specs.Partition.{SameSignature, SplitsTo, ClassFound, Searchable, Refinable};
+
+// The lowest class whose first member has the signature of s, or count where none has.
+fn find_class(next: &[u16], classes: &[u8], firsts: &[usize], actions: usize, count: usize, s: usize) -> usize
+    requires { ⌜ Searchable actions (length (now classes)) count s (now next) (now firsts) ⌝ }
+    ensures { λ r. ⌜ ClassFound actions (now (next .entry)) (now (classes .entry)) (now (firsts .entry)) count s r ⌝ }
+{
+    let mut c = 0;
+    while c < count {
+        if same_signature(next, classes, actions, firsts[c], s) {
+            return c;
+        }
+        c += 1;
+    }
+    c
+}
+
+// One pass: splits the states by their signatures under the classes so far.
+fn pass(next: &[u16], classes: &[u8], finer: &mut [u8], firsts: &mut [usize], actions: usize, limit: usize) -> Refined
+    requires { ⌜ Refinable actions limit (now next) (now classes) (now finer) (now firsts) ⌝ }
+    ensures { λ r. ⌜ SplitsTo (SameSignature actions (now (next .entry)) (now (classes .entry))) (length (now (classes .entry))) limit r (now (finer .exit)) (now (firsts .exit)) ⌝ }
+{
+    let mut count = 0;
+    let mut s = 0;
+    while s < classes.len() {
+        let c = find_class(next, classes, firsts, actions, count, s);
+        if c == count {
+            if count == limit {
+                return Refined::TooMany;
+            }
+            firsts[count] = s;
+            count += 1;
+        }
+        finer[s] = c as u8;
+        s += 1;
+    }
+    Refined::Classes(count)
+}
+
+// Every state into class 0.
+fn one_class(classes: &mut [u8])
+    ensures { λ _. ⌜ now (classes .exit) ≡ replicate (length (now (classes .entry))) 0 ⌝ }
+{
+    let mut s = 0;
+    while s < classes.len() {
+        classes[s] = 0;
+        s += 1;
+    }
+}
+
+// The classes of `from` into `to`.
+fn copy_classes(from: &[u8], to: &mut [u8])
+    requires { ⌜ length (now to) ≡ length (now from) ⌝ }
+    ensures { λ _. ⌜ now (to .exit) ≡ now (from .entry) ⌝ }
+{
+    let mut s = 0;
+    while s < from.len() {
+        to[s] = from[s];
+        s += 1;
+    }
+}
+
+// The classes of alike states, with their first members, or that there are more classes than the limit. `other` is scratch.
+pub fn refine(next: &[u16], actions: usize, limit: usize, classes: &mut [u8], other: &mut [u8], firsts: &mut [usize]) -> Refined
+    requires { ⌜ Refinable actions limit (now next) (now classes) (now other) (now firsts) ⌝ }
+    ensures { λ r. ⌜ ((mark : ℕ) → Machine mark (length (now (classes .entry))) actions (now (next .entry)) → SplitsTo (AlikeStates mark actions (now (next .entry))) (length (now (classes .entry))) limit r (now (classes .exit)) (now (firsts .exit))) ⌝ }
+{
+    one_class(classes);
+    let mut count = 1;
+    loop {
+        let found = pass(next, classes, other, firsts, actions, limit);
+        let Refined::Classes(finer) = found else {
+            return Refined::TooMany;
+        };
+        copy_classes(other, classes);
+        if finer == count {
+            return Refined::Classes(count);
+        }
+        count = finer;
+    }
+}
