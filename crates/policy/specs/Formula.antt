@@ -1,0 +1,26 @@
+-- Action formulas (document 01, kinds 1 to 6; document 002, definition 5) over the 16 propositions that an action may satisfy.
+-- Assumes nothing.
+use mathlib.Core.Bool.{Bool, true, false, not, _&&_, _||_}
+use Prim.Native.Nat.{ℕ, _/_, _%_, _^_}
+use lib.Dec.{eqb}
+
+-- An action's propositions are a set of bits: bit p of the number is set when the action satisfies proposition p.
+abbrev pub bit : ℕ → ℕ → Bool
+bit s p = eqb (s / 2 ^ p % 2) 1
+
+pub data Formula : Type 0 where
+  always-true : Formula
+  always-false : Formula
+  proposition : ℕ → Formula
+  negation : Formula → Formula
+  conjunction : Formula → Formula → Formula
+  disjunction : Formula → Formula → Formula
+
+-- Whether an action that satisfies the propositions of the set satisfies the formula.
+abbrev pub holds : Formula → ℕ → Bool
+holds always-true s = true
+holds always-false s = false
+holds (proposition p) s = bit s p
+holds (negation f) s = not (holds f s)
+holds (conjunction f g) s = holds f s && holds g s
+holds (disjunction f g) s = holds f s || holds g s

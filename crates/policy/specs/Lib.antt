@@ -1,0 +1,6 @@
+pub mod Formula
+pub mod Words
+pub mod Policy
+pub mod Typing
+pub mod Rule
+pub mod Value
