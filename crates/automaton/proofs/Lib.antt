@@ -1,1 +1,4 @@
+pub mod Build
+pub mod Canonical
+pub mod Entries
 pub mod Pigeon
