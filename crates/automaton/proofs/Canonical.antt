@@ -14,18 +14,8 @@ use lib.WfN.{Nat·lt-wfRel}
 use Rattle.trace.specs.Trace.{Alike}
 use Rattle.trace.proofs.Laws.{alike-sym, alike-trans}
 use Rattle.automaton.specs.Machine.{transition, AlikeStates, Machine, FirstMet, Numbered, Distinct}
-use Rattle.automaton.proofs.Entries.{Matched, both-trip, both-go, matched-goes, AlikeIn, alike-matched-from, alike-matched-at, state-below, index-below, action-below}
+use Rattle.automaton.proofs.Entries.{Matched, both-trip, both-go, met-goes, AlikeIn, alike-matched-from, alike-matched-at, state-below, index-below, action-below}
 use Rattle.automaton.proofs.Pigeon.{pigeon}
-
--- The entry where s is first met is no mark, so an entry matched with it is none either, and alike s.
-met-goes : {R : ℕ → ℕ → Type 0} {mark states actions : ℕ} {next : List ℕ} (mark' e' : ℕ)
-  → Machine mark states actions next → {s : ℕ} → s < states → (fm : FirstMet mark actions next s)
-  → Matched R mark (getD next (fm .at) mark) mark' e'
-  → (e' ≡ mark' → ⊥) × R s e'
-met-goes {R} {mark} {next = next} mark' e' mc h fm g = rw (fm .here) at (matched-goes mark (getD next (fm .at) mark) mark' e' g not-mark)
-  where
-    not-mark : getD next (fm .at) mark ≡ mark → ⊥
-    not-mark q = let p = fm .here in omega (arith, mc .marked)
 
 -- Two machines with the same actions. Both are numbered as first met, and neither has two alike states.
 module _ {actions mark states mark' states' : ℕ} {next next' : List ℕ} (acts : 0 < actions)

@@ -13,7 +13,7 @@ use lib.ListN.{length, getD}
 use borrow.Author.Tests.{eqb-true, eqb-false, eq-eqb, ne-eqb}
 use Rattle.trace.specs.Trace.{Move, trip, go, Step, Alike}
 use Rattle.trace.proofs.Laws.{Related, alike-next, alike-sym}
-use Rattle.automaton.specs.Machine.{moveBy, entryMove, transition, Machine}
+use Rattle.automaton.specs.Machine.{moveBy, entryMove, transition, Machine, FirstMet}
 
 -- the mark trips
 pub mark-trips : (mark e : ℕ) → e ≡ mark → entryMove mark e ≡ trip
@@ -92,3 +92,13 @@ module _ (actions mark : ℕ) (next : List ℕ) (mark' : ℕ) (next' : List ℕ)
   pub alike-matched-at : 0 < actions → (k : ℕ) → AlikeIn (k / actions) (k / actions) → Matched AlikeIn mark (getD next k mark) mark' (getD next' k mark')
   alike-matched-at h k e =
       subst (λ (i : ℕ). Matched AlikeIn mark (getD next k mark) mark' (getD next' i mark')) (split-index k actions) (alike-matched-from h k e)
+
+-- The entry where s is first met is no mark, so an entry matched with it is none either, and alike s.
+pub met-goes : {R : ℕ → ℕ → Type 0} {mark states actions : ℕ} {next : List ℕ} (mark' e' : ℕ)
+  → Machine mark states actions next → {s : ℕ} → s < states → (fm : FirstMet mark actions next s)
+  → Matched R mark (getD next (fm .at) mark) mark' e'
+  → (e' ≡ mark' → ⊥) × R s e'
+met-goes {R} {mark} {next = next} mark' e' mc h fm g = rw (fm .here) at (matched-goes mark (getD next (fm .at) mark) mark' e' g not-mark)
+  where
+    not-mark : getD next (fm .at) mark ≡ mark → ⊥
+    not-mark q = let p = fm .here in omega (arith, mc .marked)
