@@ -1,6 +1,6 @@
 -- A machine whose states are numbered as first met and are pairwise not alike is the only one that reads as it does, and no other has fewer states.
 -- Assumes nothing.
-use mathlib.Core.Path.{_≡_, refl, sym, subst, ap, _∙_}
+use mathlib.Core.Path.{_≡_, sym, subst, ap, _∙_}
 use mathlib.Core.List.{List}
 use mathlib.Core.WellFounded.{WellFounded·induction}
 use Prim.Native.Nat.{ℕ, zero, suc, _+_, _*_, _/_, _%_, _≤_, _<_}
@@ -8,12 +8,12 @@ use native.Mathlib.Nat.{zero-lt-suc, le-antisymm, lt-irrefl}
 use native.Mathlib.Decide.{decLt, decLe}
 use native.Mathlib.Omega.{arith}
 use lib.Arith.{digits-lt}
-use lib.ListN.{length, getD}
+use lib.ListN.{getD}
 use lib.Seq.{ext-getD}
 use lib.WfN.{Nat·lt-wfRel}
 use Rattle.trace.specs.Trace.{Alike}
 use Rattle.trace.proofs.Laws.{alike-sym, alike-trans}
-use Rattle.automaton.specs.Machine.{transition, AlikeStates, Machine, FirstMet, Numbered, Distinct}
+use Rattle.automaton.specs.Machine.{transition, Machine, FirstMet, Numbered, Distinct}
 use Rattle.automaton.proofs.Entries.{Matched, both-trip, both-go, met-goes, AlikeIn, alike-matched-from, alike-matched-at, state-below, index-below, action-below}
 use Rattle.automaton.proofs.Pigeon.{pigeon}
 

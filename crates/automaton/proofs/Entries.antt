@@ -1,18 +1,16 @@
 -- Laws of a machine's entries: the mark trips and any other entry goes, alike states have alike entries, and an entry's state and action.
 -- Assumes nothing.
-use mathlib.Core.Path.{_≡_, refl, sym, subst}
+use mathlib.Core.Path.{_≡_, refl, subst}
 use mathlib.Core.Bool.{Bool, true, false}
 use mathlib.Core.List.{List, [], _∷_}
-use mathlib.Core.Logic.{_⊎_, inl, inr}
-use Prim.Native.Nat.{ℕ, zero, suc, _+_, _*_, _/_, _%_, _≤_, _<_}
+use Prim.Native.Nat.{ℕ, zero, suc, _+_, _*_, _/_, _%_, _<_}
 use native.Mathlib.Nat.{div-lt-iff-lt-mul, div-add-mod', mod-lt, le-of-suc-le-suc, not-suc-le-zero}
-use native.Mathlib.Decide.{ℕ-discrete}
 use native.Mathlib.Omega.{arith}
 use lib.Dec.{eqb}
 use lib.ListN.{length, getD}
 use borrow.Author.Tests.{eqb-true, eqb-false, eq-eqb, ne-eqb}
-use Rattle.trace.specs.Trace.{Move, trip, go, Step, Alike}
-use Rattle.trace.proofs.Laws.{Related, alike-next, alike-sym}
+use Rattle.trace.specs.Trace.{trip, go, Alike}
+use Rattle.trace.proofs.Laws.{Related, alike-next}
 use Rattle.automaton.specs.Machine.{moveBy, entryMove, transition, Machine, FirstMet}
 
 -- the mark trips

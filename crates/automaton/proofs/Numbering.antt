@@ -7,7 +7,7 @@ use native.Mathlib.Nat.{lt-of-lt-of-le, le-of-lt, mul-le-mul-right}
 use native.Mathlib.Decide.{ℕ-discrete, decLt}
 use native.Mathlib.Omega.{arith}
 use lib.ListN.{getD}
-use Rattle.automaton.specs.Machine.{Machine, FirstMet, Numbered}
+use Rattle.automaton.specs.Machine.{Machine, FirstMet}
 
 module _ {mark states actions : ℕ} {next : List ℕ} (mc : Machine mark states actions next) where
   -- no entry before it is the state
