@@ -19,9 +19,8 @@ use Rattle.automaton.proofs.Pigeon.{pigeon}
 
 -- Two machines with the same actions. Both are numbered as first met, and neither has two alike states.
 module _ {actions mark states mark' states' : ℕ} {next next' : List ℕ} (acts : 0 < actions)
-  (mc : Machine mark states actions next) (nu : Numbered mark states actions next) (di : Distinct mark states actions next)
-  (mc' : Machine mark' states' actions next') (nu' : Numbered mark' states' actions next') (di' : Distinct mark' states' actions next') where
-
+    (mc : Machine mark states actions next) (nu : Numbered mark states actions next) (di : Distinct mark states actions next)
+    (mc' : Machine mark' states' actions next') (nu' : Numbered mark' states' actions next') (di' : Distinct mark' states' actions next') where
   abbrev Both : ℕ → ℕ → Type 0
   Both = AlikeIn actions mark next mark' next'
 
@@ -30,7 +29,7 @@ module _ {actions mark states mark' states' : ℕ} {next next' : List ℕ} (acts
 
   -- The second machine does not meet s before the first does: what the first meets there has a lower number, and is alike s.
   not-before : (s : ℕ) → s < states' → ((p : ℕ) → p < s → Same p) → (fm : FirstMet mark actions next s) (fm' : FirstMet mark' actions next' s)
-    → fm' .at < fm .at → ⊥
+      → fm' .at < fm .at → ⊥
   not-before s h ih fm fm' l =
       let e = di' .apart s u h (ih u u-below .0) (alike-trans actions (step .1) (ih u u-below .1)) in
       omega (arith, u-below)
@@ -70,8 +69,15 @@ module _ {actions mark states mark' states' : ℕ} {next next' : List ℕ} (acts
       s-below = elim (decLt t s) [ yes g ↦ absurd (not-less g) | no g ↦ omega (arith, t-below) ]
 
       t-is-s : FirstMet mark' actions next' s → t ≡ s
-      t-is-s fm' = elim (decLt (fm .at) (fm' .at)) [ yes l ↦ absurd (not-less (fm' .new (fm .at) l (step .0))) | no p ↦ elim (decLt (fm' .at) (fm .at)) [ yes l ↦ absurd (not-before s s-below ih fm fm' l) | no q ↦ at-once (omega arith) ] ]
+      t-is-s fm' =
+          elim (decLt (fm .at) (fm' .at)) [ yes l ↦ absurd (not-later l) | no p ↦ elim (decLt (fm' .at) (fm .at)) [ yes l ↦ absurd (not-earlier l) | no q ↦ at-once (omega arith) ] ]
         where
+          not-later : fm .at < fm' .at → ⊥
+          not-later l = not-less (fm' .new (fm .at) l (step .0))
+
+          not-earlier : fm' .at < fm .at → ⊥
+          not-earlier l = not-before s s-below ih fm fm' l
+
           at-once : fm .at ≡ fm' .at → t ≡ s
           at-once e = rw e (fm' .here)
 
@@ -89,29 +95,31 @@ module _ {actions mark states mark' states' : ℕ} {next next' : List ℕ} (acts
 -- Two machines that are numbered as first met and have no two alike states: where they read alike from state 0, they have as many states, and
 -- each state is alike the one with its number.
 pub canonical : {actions mark states mark' states' : ℕ} {next next' : List ℕ} → 0 < actions
-  → Machine mark states actions next → Numbered mark states actions next → Distinct mark states actions next
-  → Machine mark' states' actions next' → Numbered mark' states' actions next' → Distinct mark' states' actions next'
-  → 0 < states → 0 < states'
-  → Alike actions (transition mark actions next) 0 (transition mark' actions next') 0
-  → (states ≡ states') × ((s : ℕ) → s < states → Alike actions (transition mark actions next) s (transition mark' actions next') s)
-canonical acts mc nu di mc' nu' di' some some' start =
-    (le-antisymm (no-more acts mc nu di mc' nu' di' some' start) (no-more acts mc' nu' di' mc nu di some (alike-sym _ start)),
-      λ s h. all-same acts mc nu di mc' nu' di' some' start s h .1)
+    → Machine mark states actions next → Numbered mark states actions next → Distinct mark states actions next
+    → Machine mark' states' actions next' → Numbered mark' states' actions next' → Distinct mark' states' actions next'
+    → 0 < states → 0 < states'
+    → Alike actions (transition mark actions next) 0 (transition mark' actions next') 0
+    → (states ≡ states') × ((s : ℕ) → s < states → Alike actions (transition mark actions next) s (transition mark' actions next') s)
+canonical acts mc nu di mc' nu' di' some some' start = (
+  le-antisymm (no-more acts mc nu di mc' nu' di' some' start) (no-more acts mc' nu' di' mc nu di some (alike-sym _ start)),
+  λ s h. all-same acts mc nu di mc' nu' di' some' start s h .1,
+)
 
 -- With one mark they are the same machine.
 pub canonical-entries : {actions mark states states' : ℕ} {next next' : List ℕ} → 0 < actions
-  → Machine mark states actions next → Numbered mark states actions next → Distinct mark states actions next
-  → Machine mark states' actions next' → Numbered mark states' actions next' → Distinct mark states' actions next'
-  → 0 < states → 0 < states'
-  → Alike actions (transition mark actions next) 0 (transition mark actions next') 0
-  → next ≡ next'
+    → Machine mark states actions next → Numbered mark states actions next → Distinct mark states actions next
+    → Machine mark states' actions next' → Numbered mark states' actions next' → Distinct mark states' actions next'
+    → 0 < states → 0 < states'
+    → Alike actions (transition mark actions next) 0 (transition mark actions next') 0
+    → next ≡ next'
 canonical-entries {actions} {mark} {states} {states'} {next} {next'} acts mc nu di mc' nu' di' some some' start =
     ext-getD mark next next' (mc .sized ∙ ap (λ (x : ℕ). x * actions) (both .0) ∙ sym (mc' .sized)) (λ k h. entry k (subst (λ (x : ℕ). k < x) (mc .sized) h))
   where
     both : (states ≡ states') × ((s : ℕ) → s < states → Alike actions (transition mark actions next) s (transition mark actions next') s)
     both = canonical acts mc nu di mc' nu' di' some some' start
 
-    equal : (k : ℕ) → k < states * actions → Matched (AlikeIn actions mark next mark next') mark (getD next k mark) mark (getD next' k mark) → getD next k mark ≡ getD next' k mark
+    equal : (k : ℕ) → k < states * actions → Matched (AlikeIn actions mark next mark next') mark (getD next k mark) mark (getD next' k mark)
+        → getD next k mark ≡ getD next' k mark
     equal k h (both-trip p p') = p ∙ sym p'
     equal k h (both-go q q' r) =
         di .apart (getD next k mark) (getD next' k mark) (mc .closed k h q) e'-below (alike-trans actions r (alike-sym actions (both .1 (getD next' k mark) e'-below)))
@@ -124,10 +132,10 @@ canonical-entries {actions} {mark} {states} {states'} {next} {next'} acts mc nu 
 
 -- No machine that reads alike from state 0 has fewer states: each state s has an alike one there, and no two the same.
 pub fewest : {actions mark states mark' states' : ℕ} {next next' : List ℕ} → 0 < actions
-  → Machine mark states actions next → Numbered mark states actions next → Distinct mark states actions next
-  → Machine mark' states' actions next' → 0 < states'
-  → Alike actions (transition mark actions next) 0 (transition mark' actions next') 0
-  → states ≤ states'
+    → Machine mark states actions next → Numbered mark states actions next → Distinct mark states actions next
+    → Machine mark' states' actions next' → 0 < states'
+    → Alike actions (transition mark actions next) 0 (transition mark' actions next') 0
+    → states ≤ states'
 fewest {actions} {mark} {states} {mark'} {states'} {next} {next'} acts mc nu di mc' some' start = pigeon states states' Both image apart
   where
     Both : ℕ → ℕ → Type 0

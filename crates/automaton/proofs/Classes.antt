@@ -27,7 +27,7 @@ module _ {R : ℕ → ℕ → Type 0} {states count : ℕ} {classes firsts : Lis
 
   -- related states have one class
   pub same-class : ((s t : ℕ) → R s t → R t s) → ((s t u : ℕ) → R s t → R t u → R s u)
-    → (s t : ℕ) → s < states → t < states → R s t → classOf classes s ≡ classOf classes t
+      → (s t : ℕ) → s < states → t < states → R s t → classOf classes s ≡ classOf classes t
   same-class symmetric transitive s t h g r =
       elim (decLt c d) [ yes l ↦ absurd (not-lower l) | no p ↦ elim (decLt d c) [ yes l ↦ absurd (not-higher l) | no q ↦ omega arith ] ]
     where
@@ -40,7 +40,7 @@ module _ {R : ℕ → ℕ → Type 0} {states count : ℕ} {classes firsts : Lis
       between : R (firstOf firsts c) (firstOf firsts d)
       between =
           transitive (firstOf firsts c) s (firstOf firsts d) (pa .member s h)
-            (transitive s t (firstOf firsts d) r (symmetric (firstOf firsts d) t (pa .member t g)))
+          (transitive s t (firstOf firsts d) r (symmetric (firstOf firsts d) t (pa .member t g)))
 
       not-lower : c < d → ⊥
       not-lower l = pa .apart c d l (pa .below t g) between

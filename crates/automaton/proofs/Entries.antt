@@ -73,29 +73,29 @@ module _ (actions mark : ℕ) (next : List ℕ) (mark' : ℕ) (next' : List ℕ)
 
   -- the entries of alike states are matched, by alike states again
   pub alike-matched : {s t : ℕ} → AlikeIn s t → (a : ℕ) → a < actions
-    → Matched AlikeIn mark (getD next (s * actions + a) mark) mark' (getD next' (t * actions + a) mark')
+      → Matched AlikeIn mark (getD next (s * actions + a) mark) mark' (getD next' (t * actions + a) mark')
   alike-matched {s} {t} e a h =
       related-matched mark (getD next (s * actions + a) mark) mark' (getD next' (t * actions + a) mark')
-        (alike-next actions (transition mark actions next) (transition mark' actions next') e a h)
+      (alike-next actions (transition mark actions next) (transition mark' actions next') e a h)
 
   -- the same, the first entry by its flat index
   pub alike-matched-from : 0 < actions → (k : ℕ) {t : ℕ} → AlikeIn (k / actions) t
-    → Matched AlikeIn mark (getD next k mark) mark' (getD next' (t * actions + k % actions) mark')
+      → Matched AlikeIn mark (getD next k mark) mark' (getD next' (t * actions + k % actions) mark')
   alike-matched-from h k {t} e =
       subst (λ (i : ℕ). Matched AlikeIn mark (getD next i mark) mark' (getD next' (t * actions + k % actions) mark'))
-        (split-index k actions)
-        (alike-matched e (k % actions) (action-below k h))
+      (split-index k actions)
+      (alike-matched e (k % actions) (action-below k h))
 
   -- the same, both by one flat index
   pub alike-matched-at : 0 < actions → (k : ℕ) → AlikeIn (k / actions) (k / actions) → Matched AlikeIn mark (getD next k mark) mark' (getD next' k mark')
   alike-matched-at h k e =
       subst (λ (i : ℕ). Matched AlikeIn mark (getD next k mark) mark' (getD next' i mark')) (split-index k actions) (alike-matched-from h k e)
 
--- The entry where s is first met is no mark, so an entry matched with it is none either, and alike s.
+-- The entry where s is first met is no mark, so an entry matched with it is none either, and is related to s.
 pub met-goes : {R : ℕ → ℕ → Type 0} {mark states actions : ℕ} {next : List ℕ} (mark' e' : ℕ)
-  → Machine mark states actions next → {s : ℕ} → s < states → (fm : FirstMet mark actions next s)
-  → Matched R mark (getD next (fm .at) mark) mark' e'
-  → (e' ≡ mark' → ⊥) × R s e'
+    → Machine mark states actions next → {s : ℕ} → s < states → (fm : FirstMet mark actions next s)
+    → Matched R mark (getD next (fm .at) mark) mark' e'
+    → (e' ≡ mark' → ⊥) × R s e'
 met-goes {R} {mark} {next = next} mark' e' mc h fm g = rw (fm .here) at (matched-goes mark (getD next (fm .at) mark) mark' e' g not-mark)
   where
     not-mark : getD next (fm .at) mark ≡ mark → ⊥

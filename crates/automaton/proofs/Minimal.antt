@@ -12,12 +12,11 @@ use Rattle.automaton.specs.Machine.{transition, AlikeStates, Machine, Di
 use Rattle.automaton.specs.Partition.{classOf, firstOf, Partition}
 use Rattle.automaton.specs.Quotient.{quotientEntry, quotientRows}
 use Rattle.automaton.proofs.Build.{length-build, getD-build}
-use Rattle.automaton.proofs.Classes.{same-class}
+use Rattle.automaton.proofs.Classes.{class-zero, same-class}
 use Rattle.automaton.proofs.Entries.{Matched, both-trip, both-go, matched-related, AlikeIn, alike-matched, state-below, action-below, getD-inside}
 
 module _ {mark states actions count : ℕ} {next classes firsts : List ℕ} (acts : 0 < actions) (mc : Machine mark states actions next)
-  (pa : Partition (AlikeStates mark actions next) states count classes firsts) (sized : length classes ≡ states) (few : count ≤ 64) where
-
+    (pa : Partition (AlikeStates mark actions next) states count classes firsts) (sized : length classes ≡ states) (few : count ≤ 64) where
   abbrev rows : List ℕ
   rows = quotientRows actions count next classes firsts
 
@@ -43,7 +42,7 @@ module _ {mark states actions count : ℕ} {next classes firsts : List ℕ} (act
   pub row-entry : (c a : ℕ) → c < count → a < actions → getD rows (c * actions + a) 255 ≡ classOf classes (getD next (firstOf firsts c * actions + a) mark)
   row-entry c a h g =
       row-at (c * actions + a) (digits-lt h g)
-        ∙ ap₂ (λ (x y : ℕ). classOf classes (getD next (firstOf firsts x * actions + y) mark)) (digits-div c g) (digits-mod c g)
+      ∙ ap₂ (λ (x y : ℕ). classOf classes (getD next (firstOf firsts x * actions + y) mark)) (digits-div c g) (digits-mod c g)
 
   pub quotient-machine : Machine 255 count actions (quotientRows actions count next classes firsts)
   quotient-machine = record { sized = length-build (count * actions) (quotientEntry actions next classes firsts); marked = omega arith; closed = closed }
@@ -66,7 +65,7 @@ module _ {mark states actions count : ℕ} {next classes firsts : List ℕ} (act
 
   -- the entries of a state and of its class are matched
   reads-matched : (s a : ℕ) → s < states → a < actions
-    → Matched In mark (getD next (s * actions + a) mark) 255 (getD rows (classOf classes s * actions + a) 255)
+      → Matched In mark (getD next (s * actions + a) mark) 255 (getD rows (classOf classes s * actions + a) 255)
   reads-matched s a h g = by (alike-matched actions mark next mark next (pa .member s h) a g)
     where
       c : ℕ
@@ -79,7 +78,7 @@ module _ {mark states actions count : ℕ} {next classes firsts : List ℕ} (act
       entry = row-entry c a (pa .below s h) g
 
       by : Matched (AlikeStates mark actions next) mark (getD next (f * actions + a) mark) mark (getD next (s * actions + a) mark)
-        → Matched In mark (getD next (s * actions + a) mark) 255 (getD rows (c * actions + a) 255)
+          → Matched In mark (getD next (s * actions + a) mark) 255 (getD rows (c * actions + a) 255)
       by (both-trip p p') = both-trip p' (entry ∙ ap (classOf classes) p ∙ mark-class)
       by (both-go q q' r) = both-go q' no-trip (s-below, same ∙ sym entry)
         where
@@ -97,13 +96,17 @@ module _ {mark states actions count : ℕ} {next classes firsts : List ℕ} (act
 
   -- each state reads alike its class
   pub quotient-reads : (s : ℕ) → s < states
-    → Alike actions (transition mark actions next) s (transition 255 actions (quotientRows actions count next classes firsts)) (classOf classes s)
+      → Alike actions (transition mark actions next) s (transition 255 actions (quotientRows actions count next classes firsts)) (classOf classes s)
   quotient-reads s h = bisimilar actions (transition mark actions next) (transition 255 actions rows) In closed s (classOf classes s) (h, refl)
     where
       closed : (u v : ℕ) → In u v → (a : ℕ) → a < actions → Related In (transition mark actions next u a) (transition 255 actions rows v a)
       closed u v r a g =
           matched-related mark (getD next (u * actions + a) mark) 255 (getD rows (v * actions + a) 255)
-            (subst (λ (x : ℕ). Matched In mark (getD next (u * actions + a) mark) 255 (getD rows (x * actions + a) 255)) (r .1) (reads-matched u a (r .0) g))
+          (subst (λ (x : ℕ). Matched In mark (getD next (u * actions + a) mark) 255 (getD rows (x * actions + a) 255)) (r .1) (reads-matched u a (r .0) g))
+
+  -- the quotient reads as the machine does
+  pub quotient-start : 0 < states → Alike actions (transition mark actions next) 0 (transition 255 actions (quotientRows actions count next classes firsts)) 0
+  quotient-start some = rw (class-zero pa some) at (quotient-reads 0 some)
 
   -- no two classes are alike
   pub quotient-distinct : Distinct 255 count actions (quotientRows actions count next classes firsts)

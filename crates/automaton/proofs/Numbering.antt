@@ -10,7 +10,7 @@ use lib.ListN.{getD}
 use Rattle.automaton.specs.Machine.{Machine, FirstMet}
 
 module _ {mark states actions : ℕ} {next : List ℕ} (mc : Machine mark states actions next) where
-  -- no entry before it is the state
+  -- an entry that is the state stands there or later
   pub first-entry : {s : ℕ} → s < states → (fm : FirstMet mark actions next s) → (j : ℕ) → getD next j mark ≡ s → fm .at ≤ j
   first-entry h fm j e = elim (decLt j (fm .at)) [ yes l ↦ absurd (before l) | no l ↦ omega arith ]
     where
@@ -20,9 +20,9 @@ module _ {mark states actions : ℕ} {next : List ℕ} (mc : Machine mark states
   -- states are met in the order of their numbers
   pub met-in-order : {s t : ℕ} → s < t → t < states → (fm : FirstMet mark actions next s) (fm' : FirstMet mark actions next t) → fm .at < fm' .at
   met-in-order l h fm fm' =
-      elim (decLt (fm .at) (fm' .at)) [ yes g ↦ g | no g ↦ elim (ℕ-discrete (fm' .at) (fm .at)) [ yes e ↦ absurd (equal e) | no q ↦ absurd (earlier (omega arith)) ] ]
+      elim (ℕ-discrete (fm .at) (fm' .at)) [ yes e ↦ absurd (equal e) | no q ↦ elim (decLt (fm .at) (fm' .at)) [ yes g ↦ g | no g ↦ absurd (earlier (omega arith)) ] ]
     where
-      equal : fm' .at ≡ fm .at → ⊥
+      equal : fm .at ≡ fm' .at → ⊥
       equal e = let p = ap (λ (k : ℕ). getD next k mark) e in omega (arith, fm .here, fm' .here)
 
       earlier : fm' .at < fm .at → ⊥

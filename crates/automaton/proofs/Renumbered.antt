@@ -17,15 +17,14 @@ use Rattle.automaton.proofs.Entries.{alike-matched-from, met-goes, stat
 use Rattle.automaton.proofs.Minimal.{alike-class, mark-class, row-at, row-entry}
 
 module _ {mark states actions count : ℕ} {next classes firsts : List ℕ} (acts : 0 < actions) (mc : Machine mark states actions next)
-  (pa : Partition (AlikeStates mark actions next) states count classes firsts) (sized : length classes ≡ states) (few : count ≤ 64) where
-
+    (pa : Partition (AlikeStates mark actions next) states count classes firsts) (sized : length classes ≡ states) (few : count ≤ 64) where
   abbrev rows : List ℕ
   rows = quotientRows actions count next classes firsts
 
   -- The first member f of a class is first met in a state p that is the first member of its own class: an earlier member of that one goes by the
   -- same action to a state alike f, which is f or later, but stands before f is met.
   first-row : (c : ℕ) → c < count → (fm : FirstMet mark actions next (firstOf firsts c))
-    → firstOf firsts (classOf classes (fm .at / actions)) ≡ fm .at / actions
+      → firstOf firsts (classOf classes (fm .at / actions)) ≡ fm .at / actions
   first-row c h fm = elim (decLt p' p) [ yes l ↦ absurd (earlier l) | no l ↦ omega (arith, pa .first p p-below) ]
     where
       f : ℕ
@@ -95,10 +94,10 @@ module _ {mark states actions count : ℕ} {next classes firsts : List ℕ} (act
       here : getD rows (cp * actions + a) 255 ≡ c
       here =
           row-entry acts mc pa sized few cp a cp-inside a-below
-            ∙ ap (λ (x : ℕ). classOf classes (getD next (x * actions + a) mark)) p-first
-            ∙ ap (λ (x : ℕ). classOf classes (getD next x mark)) (split-index (fm .at) actions)
-            ∙ ap (classOf classes) (fm .here)
-            ∙ pa .own c h
+          ∙ ap (λ (x : ℕ). classOf classes (getD next (x * actions + a) mark)) p-first
+          ∙ ap (λ (x : ℕ). classOf classes (getD next x mark)) (split-index (fm .at) actions)
+          ∙ ap (classOf classes) (fm .here)
+          ∙ pa .own c h
 
       new : (j : ℕ) → j < cp * actions + a → (getD rows j 255 ≡ 255 → ⊥) → getD rows j 255 < c
       new j l q = rw entry (first-order pa (classOf classes x) c (pa .below x x-inside) (lt-of-le-of-lt (pa .first x x-inside) x-below))
