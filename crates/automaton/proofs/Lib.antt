@@ -2,7 +2,7 @@ pub mod Build
 pub mod Canonical
 pub mod Classes
 pub mod Entries
-pub mod Minimal
 pub mod Numbering
 pub mod Pigeon
-pub mod Renumbered
+pub mod QuotientNumbered
+pub mod QuotientReads

@@ -14,7 +14,7 @@ use Rattle.automaton.specs.Partition.{classOf, firstOf, Partition}
 use Rattle.automaton.specs.Quotient.{quotientRows}
 use Rattle.automaton.proofs.Classes.{first-order}
 use Rattle.automaton.proofs.Entries.{alike-matched-from, met-goes, state-below, index-below, action-below, split-index}
-use Rattle.automaton.proofs.Minimal.{alike-class, mark-class, row-at, row-entry}
+use Rattle.automaton.proofs.QuotientReads.{alike-class, mark-class, row-at, row-entry}
 
 module _ {mark states actions count : ℕ} {next classes firsts : List ℕ} (acts : 0 < actions) (mc : Machine mark states actions next)
     (pa : Partition (AlikeStates mark actions next) states count classes firsts) (sized : length classes ≡ states) (few : count ≤ 64) where
