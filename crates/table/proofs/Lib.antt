@@ -1,0 +1,4 @@
+pub mod Tests
+pub mod Formed
+pub mod Scan
+pub mod Verdicts

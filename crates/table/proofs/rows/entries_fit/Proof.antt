@@ -1,0 +1,65 @@
+-- `table::rows::entries_fit` meets its contract: the flag says whether every entry passed fits.
+-- Assumes nothing.
+use mathlib.Core.Path.{_≡_, _∙_}
+use Prim.Native.Nat.{ℕ, _≤_, _<_, _-_}
+use native.Mathlib.Omega.{arith}
+use lib.ListN.{length, getD}
+use borrow.Author.Needs.{needs}
+use Rattle.automaton.specs.Build.{Decides}
+use Rattle.automaton.proofs.Entries.{getD-inside}
+use Rattle.table.specs.Table.{EntryFits}
+use Rattle.table.proofs.Tests.{decides-map, every-and}
+use Rattle.table.proofs.rows.entries_fit.Statement.{statement}
+use Rattle.table.proofs.rows.entries_fit.Tie as tie
+
+abbrev Inv-loop : tie.InvT-loop
+Inv-loop entries rows fit₀ k₀ fit k = (k ≤ length entries) × Decides ((j : ℕ) → j < k → EntryFits rows (getD entries j 255)) fit
+
+abbrev μ-loop : tie.MeasureT-loop
+μ-loop entries rows fit₀ k₀ fit k = length entries - k
+
+loop-holds : tie.Need-loop-holds Inv-loop μ-loop
+loop-holds c = (search needs, λ j h. absurd (let z = h in omega arith))
+
+shared-slice-read-byte : tie.Need-shared-slice-read-byte Inv-loop μ-loop
+shared-slice-read-byte c = search needs
+
+byte-requires : tie.Need-byte-requires Inv-loop μ-loop
+byte-requires c κs = search needs
+
+entry-fits-requires : tie.Need-entry-fits-requires Inv-loop μ-loop
+entry-fits-requires c κs = search needs
+
+add-k : tie.Need-add-k Inv-loop μ-loop
+add-k c = search needs
+
+loop-less : tie.Need-loop-less Inv-loop μ-loop
+loop-less c = search needs
+
+loop-again : tie.Need-loop-again Inv-loop μ-loop
+loop-again c =
+    let entries = c .before .before .before .before .before .before .args .entries .now in
+    let k = c .before .before .before .before .loop .k in
+    let read : c .before .byte .result ≡ getD entries k 255 = c .before .byte .ensures .0 ∙ getD-inside entries k 0 255 (search needs) in
+    (search needs,
+    every-and (λ j. EntryFits _ (getD entries j 255)) k (c .before .before .before .before .loop .fit) (c .entry-fits .result)
+    (c .before .before .before .before .loop .inv .1)
+    (rw read at (c .entry-fits .ensures)))
+
+returns : tie.Need-returns Inv-loop μ-loop
+returns c = decides-map (λ h k q. h k (omega arith)) (λ h k q. h k (omega arith)) (c .before .loop .fit) (c .before .loop .inv .1)
+
+pub entries-fit-spec : {M : Type 1} → statement M
+entries-fit-spec =
+    tie.close
+    (tie.spec
+    Inv-loop
+    μ-loop
+    loop-holds
+    shared-slice-read-byte
+    byte-requires
+    entry-fits-requires
+    add-k
+    loop-less
+    loop-again
+    returns)

@@ -1,0 +1,107 @@
+-- `table::rows::numbered` meets its contract: the scan of proofs/Scan.antt.
+-- Assumes nothing.
+use mathlib.Core.Path.{_≡_, sym, _∙_}
+use mathlib.Core.Logic.{⊎-elim}
+use Prim.Native.Nat.{ℕ, _≤_, _<_, _*_, _-_}
+use native.Mathlib.Nat.{mul-le-mul}
+use native.Mathlib.Omega.{arith}
+use lib.Arith.{lt-of-le-ne}
+use lib.Dec.{eqb}
+use lib.ListN.{length, getD}
+use borrow.Author.Needs.{needs}
+use Rattle.automaton.proofs.Entries.{getD-inside}
+use Rattle.table.proofs.Tests.{decides-either, decides-eqb}
+use Rattle.table.proofs.Scan.{Scanned, scan-none, scan-known, scan-trip, scan-new, scan-skips, scan-late, scan-all, scan-some}
+use Rattle.table.proofs.rows.numbered.Statement.{statement}
+use Rattle.table.proofs.rows.numbered.Tie as tie
+
+abbrev Inv-loop : tie.InvT-loop
+Inv-loop entries rows actions met₀ k₀ met k = (k ≤ length entries) × Scanned rows actions met k entries
+
+abbrev μ-loop : tie.MeasureT-loop
+μ-loop entries rows actions met₀ k₀ met k = length entries - k
+
+loop-holds : tie.Need-loop-holds Inv-loop μ-loop
+loop-holds c = (search needs, scan-none _ _ _ (c .before .pre))
+
+shared-slice-read-byte : tie.Need-shared-slice-read-byte Inv-loop μ-loop
+shared-slice-read-byte c = search needs
+
+byte-requires : tie.Need-byte-requires Inv-loop μ-loop
+byte-requires c κs = search needs
+
+-- what is known once the entry is read
+module _ (c : tie.After-byte Inv-loop μ-loop) where
+  read : c .byte .result ≡ getD (c .before .before .before .before .before .args .entries .now) (c .before .before .before .loop .k) 255
+  read = c .byte .ensures .0 ∙ getD-inside (c .before .before .before .before .before .args .entries .now) (c .before .before .before .loop .k) 0 255 (c .before .before .loop-test .taken)
+
+  scanned : Scanned (c .before .before .before .before .before .args .rows) (c .before .before .before .before .before .args .actions) (c .before .before .before .loop .met) (c .before .before .before .loop .k) (c .before .before .before .before .before .args .entries .now)
+  scanned = c .before .before .before .loop .inv .1
+
+  small : c .before .before .before .loop .met * c .before .before .before .before .before .args .actions ≤ 1024
+  small =
+      mul-le-mul {n₂ = 64} {m₂ = 16} (omega (arith, scanned .few, c .before .before .before .before .before .pre .rows-high))
+      (c .before .before .before .before .before .pre .actions-high)
+
+returns : tie.Need-returns Inv-loop μ-loop
+returns c =
+    let b = c .before .before in
+    scan-skips _ _ _ (b .before .before .before .before .before .pre) _ _ (scanned b) (b .before .before .loop-test .taken) (λ e. c .before .if1 .taken (read b ∙ e))
+    (rw (read b) at (c .if2 .taken))
+
+mul-if4 : tie.Need-mul-if4 Inv-loop μ-loop
+mul-if4 c = omega (arith, small (c .before .before .before))
+
+returns-2 : tie.Need-returns-2 Inv-loop μ-loop
+returns-2 c =
+    let b = c .before .before .before .before in
+    scan-late _ _ _ (b .before .before .before .before .before .pre) _ _ (scanned b) (b .before .before .loop-test .taken) (λ e. c .before .before .before .if1 .taken (read b ∙ e))
+    (sym (read b) ∙ c .before .if3 .taken) (c .if4 .taken)
+
+add-met : tie.Need-add-met Inv-loop μ-loop
+add-met c = omega (arith, scanned (c .before .before .before .before) .few, c .before .before .before .before .before .before .before .before .before .pre .rows-high)
+
+add-k : tie.Need-add-k Inv-loop μ-loop
+add-k c = search needs
+
+loop-less : tie.Need-loop-less Inv-loop μ-loop
+loop-less c = search needs
+
+loop-again : tie.Need-loop-again Inv-loop μ-loop
+loop-again c =
+    let b = c .before in
+    let fit = b .before .before .before .before .before .pre in
+    (search needs,
+    ⊎-elim
+    (λ w.
+      rw (w .4)
+      (scan-new _ _ _ fit _ _ (scanned b) (b .before .before .loop-test .taken) (λ e. w .0 .taken (read b ∙ e)) (sym (read b) ∙ w .2 .taken) (w .3 .left)))
+    (⊎-elim
+    (λ w. rw (w .3) (scan-known _ _ _ fit _ _ (scanned b) (λ e. w .0 .taken (read b ∙ e)) (rw (read b) at (lt-of-le-ne (w .1 .left) (w .2 .left)))))
+    (λ w. rw (w .1) (scan-trip _ _ _ fit _ _ (scanned b) (sym (read b) ∙ w .0 .left))))
+    (c .if1 .came))
+
+returns-3 : tie.Need-returns-3 Inv-loop μ-loop
+returns-3 c =
+    let fit = c .before .before .before .pre in
+    let end : c .before .loop .k ≡ length (c .before .before .before .args .entries .now) = omega arith in
+    let sc = rw end at (c .before .loop .inv .1) in
+    decides-either (scan-all _ _ _ fit _ sc) (scan-some _ _ _ fit _ sc) (eqb (c .before .loop .met) (c .before .before .before .args .rows)) (decides-eqb (c .before .loop .met) (c .before .before .before .args .rows))
+
+pub numbered-spec : {M : Type 1} → statement M
+numbered-spec =
+    tie.close
+    (tie.spec
+    Inv-loop
+    μ-loop
+    loop-holds
+    shared-slice-read-byte
+    byte-requires
+    returns
+    mul-if4
+    returns-2
+    add-met
+    add-k
+    loop-less
+    loop-again
+    returns-3)

@@ -1,0 +1,76 @@
+// The header of a table and check 10.
+use crate::Header;
+use crate::Mode;
+use crate::rows::entries_fit;
+ghost use mathlib.Core.Path.{_≡_};
+ghost use Prim.Native.Nat.{_+_, _<_};
+ghost use lib.ListN.{length};
+ghost use Rattle.table.specs.Table.{wordAt};
+ghost use Rattle.table.specs.Answer.{HeaderRead, Checked};
+
+// A byte as a number.
+pub fn byte(x: u8) -> usize
+    ensures { λ r. ⌜ (r ≡ x) × (r < 256) ⌝ }
+{
+    x as usize
+}
+
+// The 16-bit number at a place, low byte first.
+pub fn word(bytes: &[u8], at: usize) -> usize
+    requires { ⌜ at + 1 < length (now bytes) ⌝ }
+    ensures { λ r. ⌜ r ≡ wordAt (now (bytes .entry)) at ⌝ }
+{
+    byte(bytes[at]) + 256 * byte(bytes[at + 1])
+}
+
+// The header's fields, where they are in their ranges.
+pub fn header_of(bytes: &[u8]) -> Header
+    ensures { λ r. ⌜ HeaderRead (now (bytes .entry)) r ⌝ }
+{
+    if bytes.len() < 8 {
+        return Header::BadHeader;
+    }
+    let kind = word(bytes, 0);
+    let actions = word(bytes, 2);
+    let rows = word(bytes, 4);
+    let offset = word(bytes, 6);
+    if actions < 1 {
+        return Header::BadHeader;
+    }
+    if 16 < actions {
+        return Header::BadHeader;
+    }
+    if rows < 1 {
+        return Header::BadHeader;
+    }
+    if 64 < rows {
+        return Header::BadHeader;
+    }
+    if offset != 8 {
+        return Header::BadHeader;
+    }
+    if kind == 1 {
+        return Header::Fields { mode: Mode::Enforced, actions, rows };
+    }
+    if kind == 2 {
+        return Header::Fields { mode: Mode::Watched, actions, rows };
+    }
+    Header::BadHeader
+}
+
+// Check 10: the header's fields, where length, header and entries are right.
+pub fn check(bytes: &[u8]) -> Header
+    ensures { λ r. ⌜ Checked (now (bytes .entry)) r ⌝ }
+{
+    let Header::Fields { mode, actions, rows } = header_of(bytes) else {
+        return Header::BadHeader;
+    };
+    if bytes.len() != 8 + rows * actions {
+        return Header::BadHeader;
+    }
+    if entries_fit(&bytes[8..], rows) {
+        Header::Fields { mode, actions, rows }
+    } else {
+        Header::BadHeader
+    }
+}

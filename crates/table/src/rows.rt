@@ -1,0 +1,57 @@
+// The rows of a table: their entries, their numbering, and whether two are alike.
+use crate::format::byte;
+ghost use mathlib.Core.Path.{_≡_};
+ghost use Prim.Native.Nat.{ℕ, _*_, _≤_, _<_};
+ghost use lib.ListN.{length, getD};
+ghost use Rattle.automaton.specs.Build.{Decides};
+ghost use Rattle.automaton.specs.Machine.{Numbered, Distinct};
+ghost use Rattle.table.specs.Table.{EntryFits, RowsFit};
+
+// Whether an entry is below the count of rows, or 255.
+fn entry_fits(e: usize, rows: usize) -> bool
+    ensures { λ r. ⌜ Decides (EntryFits rows e) r ⌝ }
+{
+    if e < rows {
+        return true;
+    }
+    e == 255
+}
+
+// Whether every entry is below the count of rows, or 255. One plain pass.
+pub fn entries_fit(entries: &[u8], rows: usize) -> bool
+    ensures { λ r. ⌜ Decides ((k : ℕ) → k < length (now (entries .entry)) → EntryFits rows (getD (now (entries .entry)) k 255)) r ⌝ }
+{
+    let mut fit = true;
+    let mut k = 0;
+    while k < entries.len() {
+        let e = byte(entries[k]);
+        fit = fit & entry_fits(e, rows);
+        k += 1;
+    }
+    fit
+}
+
+// Whether the rows are in the stated numbering, each met, and met before it is read.
+pub fn numbered(entries: &[u8], rows: usize, actions: usize) -> bool
+    requires { ⌜ RowsFit rows actions (now entries) ⌝ }
+    ensures { λ r. ⌜ Decides (Numbered 255 rows actions (now (entries .entry))) r ⌝ }
+{
+    let mut met = 1;
+    let mut k = 0;
+    while k < entries.len() {
+        let e = byte(entries[k]);
+        if e != 255 {
+            if met < e {
+                return false;
+            }
+            if e == met {
+                if met * actions <= k {
+                    return false;
+                }
+                met += 1;
+            }
+        }
+        k += 1;
+    }
+    met == rows
+}
