@@ -4,20 +4,15 @@ use mathlib.Core.Bool.{Bool, true, false, cond, not}
 use mathlib.Core.List.{List}
 use Prim.Native.Nat.{ℕ, _+_, max}
 use lib.Dec.{eqb, leb}
-use Rattle.policy.specs.Policy.{Policy, now, holds-first, count, not-p, and-p, or-p, eventually, always, before-, before+, after-, after+, fulfilling, ignoring}
-
 -- watched: the source's mon, trips when it becomes satisfied; enforced: the source's enf, trips when it becomes violated
-pub data Mode : Type 0 where
-  watched enforced : Mode
-
-pub data Bound : Type 0 where
-  finite : ℕ → Bound
-  unbounded : Bound
-
--- The type of a policy, or none: figure 4 has no rule for it.
-pub data Typing : Type 0 where
-  typed : Mode → Bound → Typing
-  untyped : Typing
+pub use Rattle.trace.specs.declared.Mode.{Mode}
+pub use Rattle.trace.specs.declared.Mode.the-variants.{Watched as watched, Enforced as enforced}
+pub use Rattle.policy.specs.declared.Bound.{Bound}
+pub use Rattle.policy.specs.declared.Bound.the-variants.{Finite as finite, Unbounded as unbounded}
+-- the type of a policy, or none: figure 4 has no rule for it
+pub use Rattle.policy.specs.declared.Typing.{Typing}
+pub use Rattle.policy.specs.declared.Typing.the-variants.{Typed as typed, Untyped as untyped}
+use Rattle.policy.specs.Policy.{Policy, now, holds-first, count, not-p, and-p, or-p, eventually, always, before-, before+, after-, after+, fulfilling, ignoring}
 
 -- a largest or sum with an unbounded one is unbounded
 abbrev pub larger : Bound → Bound → Bound

@@ -10,7 +10,7 @@ use lib.Seq.{take-all}
 use Rattle.automaton.specs.Machine.{Machine}
 use Rattle.table.specs.Table.{actionsOf, rowsOf, entriesOf, EntryFits, HeaderFits, WellFormed}
 use Rattle.table.specs.Answer.{FieldsOf, FormedAs}
-use Rattle.table.specs.declared.Mode.{Mode}
+use Rattle.trace.specs.declared.Mode.{Mode}
 
 -- a part of a slice from its place n on
 pub tail : (n : ℕ) (bytes : List ℕ) → take (length bytes - n) (drop n bytes) ≡ drop n bytes

@@ -4,8 +4,8 @@ use mathlib.Core.Path.{_≡_}
 use mathlib.Core.List.{List}
 use Prim.Native.Nat.{ℕ, _≤_}
 use Rattle.table.specs.Table.{typeOf, actionsOf, rowsOf, HeaderFits, WellFormed, Canonical, Accepted}
-use Rattle.table.specs.declared.Mode.{Mode}
-use Rattle.table.specs.declared.Mode.the-variants.{Enforced, Watched}
+use Rattle.trace.specs.declared.Mode.{Mode}
+use Rattle.trace.specs.declared.Mode.the-variants.{Enforced, Watched}
 use Rattle.table.specs.declared.Header.{Header}
 use Rattle.table.specs.declared.Header.the-variants.{Fields, BadHeader}
 use Rattle.table.specs.declared.Loaded.{Loaded}

@@ -1,6 +1,6 @@
 // The header of a table and check 10.
 use crate::Header;
-use crate::Mode;
+use trace::Mode;
 use crate::rows::entries_fit;
 ghost use mathlib.Core.Path.{_≡_};
 ghost use Prim.Native.Nat.{_+_, _<_};

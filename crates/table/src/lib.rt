@@ -1,13 +1,8 @@
+use trace::Mode;
 mod format;
 mod rows;
 pub use format::check;
 pub use format::header_of;
-
-// A table's type: whether it trips when its policy becomes violated, or satisfied.
-pub enum Mode {
-    Enforced,
-    Watched,
-}
 
 // What a table's header says, where its fields are in their ranges.
 pub enum Header {

@@ -1,0 +1,5 @@
+pub mod Sheet
+pub mod Node
+pub mod Types
+pub mod Judge
+pub mod Meaning
