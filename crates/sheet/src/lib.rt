@@ -1,4 +1,5 @@
 // Rule sheets: the serialised syntax tree of a policy, and checks 1 to 7.
+use policy::Bound;
 use trace::Mode;
 
 // A node: an action formula (kinds 1 to 6) or a policy (kinds 10 to 23), over the numbers of its parts.
@@ -32,20 +33,19 @@ pub enum NodeRead {
     WrongField,
 }
 
-// The number of actions after which a policy is settled.
-pub enum Bound {
-    Finite(usize),
-    Unbounded,
-}
-
 // The type of a node.
 pub enum NodeType {
     Formula,
     Policy(Mode, Bound),
 }
 
+// The same in an array's element.
+pub struct TypedNode {
+    pub of: NodeType,
+}
+
 // What typing a node finds: its type, or that check 6 or 7 fails.
-pub enum Typed {
+pub enum TypeFound {
     Fits(NodeType),
     Unfit,
     TooLong,
@@ -56,8 +56,20 @@ pub enum Fault {
     Length,
     Counts,
     Areas,
-    Kind(usize),
-    Field(usize),
-    Type(usize),
-    Bound(usize),
+    UnknownKindAt(usize),
+    WrongFieldAt(usize),
+    WrongTypeAt(usize),
+    BoundAt(usize),
+}
+
+// What the checks find: the number of nodes of a sound sheet, or the first fault.
+pub enum Judged {
+    Sound(usize),
+    Faulty(Fault),
+}
+
+// A judged sheet, with the types of its nodes.
+pub struct JudgedSheet {
+    pub judged: Judged,
+    pub types: [TypedNode; 64],
 }

@@ -1,0 +1,90 @@
+-- Checks 1 to 7 of a sheet in their order: the first fault, or none and the types of the nodes.
+-- Assumes nothing.
+use mathlib.Core.Bool.{Bool, true, false, cond}
+use mathlib.Core.List.{List, [], _∷_, _++_}
+use Prim.Native.Nat.{ℕ, zero, suc, _-_}
+use lib.ListN.{take}
+use Rattle.sheet.specs.Sheet.{nodeCount, lengthRight, countsRight, areasRight}
+use Rattle.sheet.specs.Node.{nodeOf}
+use Rattle.sheet.specs.Types.{typeAt, typeNode}
+use Rattle.sheet.specs.declared.NodeRead.{NodeRead}
+use Rattle.sheet.specs.declared.NodeRead.the-variants.{Read, UnknownKind, WrongField}
+use Rattle.sheet.specs.declared.NodeType.{NodeType}
+use Rattle.sheet.specs.declared.NodeType.the-variants.{Formula, Policy}
+use Rattle.sheet.specs.declared.TypedNode.{TypedNode}
+use Rattle.sheet.specs.declared.TypeFound.{TypeFound}
+use Rattle.sheet.specs.declared.TypeFound.the-variants.{Fits, Unfit, TooLong}
+use Rattle.sheet.specs.declared.Fault.{Fault}
+use Rattle.sheet.specs.declared.Fault.the-variants.{Length, Counts, Areas, UnknownKindAt, WrongFieldAt, WrongTypeAt, BoundAt}
+use Rattle.sheet.specs.declared.JudgedSheet.{JudgedSheet}
+use Rattle.sheet.specs.declared.Judged.{Judged}
+use Rattle.sheet.specs.declared.Judged.the-variants.{Sound, Faulty}
+
+-- The outcome of the checks: the first fault, or the types of the nodes, one behind the other.
+pub data Outcome : Type 0 where
+  faulty : Fault → Outcome
+  sound : List TypedNode → Outcome
+
+-- A fault as document 01's number and spot: the node for 4 to 7, else 0.
+abbrev pub numberOf : Fault → ℕ
+numberOf Length = 1
+numberOf Counts = 2
+numberOf Areas = 3
+numberOf (UnknownKindAt n) = 4
+numberOf (WrongFieldAt n) = 5
+numberOf (WrongTypeAt n) = 6
+numberOf (BoundAt n) = 7
+
+abbrev pub spotOf : Fault → ℕ
+spotOf Length = 0
+spotOf Counts = 0
+spotOf Areas = 0
+spotOf (UnknownKindAt n) = n
+spotOf (WrongFieldAt n) = n
+spotOf (WrongTypeAt n) = n
+spotOf (BoundAt n) = n
+
+-- checks 6 and 7 of node n
+abbrev pub judgeType : ℕ → List TypedNode → TypeFound → Outcome
+judgeType n types (Fits t) = sound (types ++ (record { of = t } ∷ []))
+judgeType n types Unfit = faulty (WrongTypeAt n)
+judgeType n types TooLong = faulty (BoundAt n)
+
+-- checks 4 and 5, then 6 and 7 of node n, the nodes before it having `types`
+abbrev pub judgeNode : ℕ → List TypedNode → NodeRead → Outcome
+judgeNode n types (Read node) = judgeType n types (typeNode node types)
+judgeNode n types UnknownKind = faulty (UnknownKindAt n)
+judgeNode n types WrongField = faulty (WrongFieldAt n)
+
+-- an earlier fault stays
+abbrev pub unlessFaulty : Outcome → (List TypedNode → Outcome) → Outcome
+unlessFaulty (faulty f) next = faulty f
+unlessFaulty (sound types) next = next types
+
+-- the first n nodes, one after the other
+abbrev pub judgeNodes : List ℕ → ℕ → Outcome
+judgeNodes bytes zero = sound []
+judgeNodes bytes (suc n) = unlessFaulty (judgeNodes bytes n) (λ types. judgeNode n types (nodeOf bytes n))
+
+-- the last node is a policy
+abbrev pub judgeLast : ℕ → List TypedNode → NodeType → Outcome
+judgeLast n types Formula = faulty (WrongTypeAt n)
+judgeLast n types (Policy m k) = sound types
+
+abbrev pub judge : List ℕ → Outcome
+judge bytes =
+    cond (lengthRight bytes)
+    (cond (countsRight bytes)
+    (cond (areasRight bytes)
+    (unlessFaulty (judgeNodes bytes (nodeCount bytes)) (λ types. judgeLast (nodeCount bytes - 1) types (typeAt types (nodeCount bytes - 1))))
+    (faulty Areas))
+    (faulty Counts))
+    (faulty Length)
+
+-- What a judged sheet says: its fault, or the types of its first nodes.
+abbrev pub outcomeBy : Judged → List TypedNode → Outcome
+outcomeBy (Faulty f) types = faulty f
+outcomeBy (Sound n) types = sound (take n types)
+
+abbrev pub outcomeOf : JudgedSheet → Outcome
+outcomeOf sheet = outcomeBy (sheet .judged) (sheet .types)

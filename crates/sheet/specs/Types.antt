@@ -1,0 +1,61 @@
+-- The type of a node from those of its parts: check 6, and check 7, the bound.
+-- Assumes nothing.
+use mathlib.Core.Bool.{Bool, true, false, cond}
+use mathlib.Core.List.{List}
+use Prim.Native.Nat.{ℕ}
+use lib.Dec.{leb}
+use lib.ListN.{getD}
+use Rattle.policy.specs.Typing.{Mode, Bound, finite, unbounded, Typing, typed, untyped, alikeTyped, typeNow, typeHolds, typeCount, typeNot, typeEventually, typeAlways, typeBefore-, typeBefore+, typeAfter-, typeAfter+, typeFulfilling, typeIgnoring}
+use Rattle.sheet.specs.declared.Node.{Node}
+use Rattle.sheet.specs.declared.Node.the-variants.{True, False, Proposition, Negation, Conjunction, Disjunction, Now, Holds, Count, Not, And, Or, Eventually, Always, BeforeMinus, BeforePlus, AfterMinus, AfterPlus, Fulfilling, Ignoring}
+use Rattle.sheet.specs.declared.NodeType.{NodeType}
+use Rattle.sheet.specs.declared.NodeType.the-variants.{Formula, Policy}
+use Rattle.sheet.specs.declared.TypedNode.{TypedNode}
+use Rattle.sheet.specs.declared.TypeFound.{TypeFound}
+use Rattle.sheet.specs.declared.TypeFound.the-variants.{Fits, Unfit, TooLong}
+
+-- The type of node i among those before.
+abbrev pub typeAt : List TypedNode → ℕ → NodeType
+typeAt types i = getD types i (record { of = Formula }) .of
+
+-- A part that has to be a policy has its type; a formula has none.
+abbrev pub typingOf : NodeType → Typing
+typingOf Formula = untyped
+typingOf (Policy m k) = typed m k
+
+-- A part that has to be an action formula.
+abbrev pub ifFormula : NodeType → TypeFound → TypeFound
+ifFormula Formula found = found
+ifFormula (Policy m k) found = Unfit
+
+-- Bounds are 1 to 65,534, or unbounded.
+abbrev pub boundFits : Bound → Bool
+boundFits (finite k) = leb k 65534
+boundFits unbounded = true
+
+abbrev pub found : Typing → TypeFound
+found (typed m k) = cond (boundFits k) (Fits (Policy m k)) TooLong
+found untyped = Unfit
+
+abbrev pub typeNode : Node → List TypedNode → TypeFound
+typeNode True types = Fits Formula
+typeNode False types = Fits Formula
+typeNode (Proposition p) types = Fits Formula
+typeNode (Negation a) types = ifFormula (typeAt types a) (Fits Formula)
+typeNode (Conjunction a b) types = ifFormula (typeAt types a) (ifFormula (typeAt types b) (Fits Formula))
+typeNode (Disjunction a b) types = ifFormula (typeAt types a) (ifFormula (typeAt types b) (Fits Formula))
+typeNode (Now a) types = ifFormula (typeAt types a) (found typeNow)
+typeNode (Holds a) types = ifFormula (typeAt types a) (found typeHolds)
+typeNode (Count k) types = found (typeCount k)
+typeNode (Not a) types = found (typeNot (typingOf (typeAt types a)))
+typeNode (And a b) types = found (alikeTyped (typingOf (typeAt types a)) (typingOf (typeAt types b)))
+typeNode (Or a b) types = found (alikeTyped (typingOf (typeAt types a)) (typingOf (typeAt types b)))
+typeNode (Eventually a) types = found (typeEventually (typingOf (typeAt types a)))
+typeNode (Always a) types = found (typeAlways (typingOf (typeAt types a)))
+typeNode (BeforeMinus a b) types = found (typeBefore- (typingOf (typeAt types a)) (typingOf (typeAt types b)))
+typeNode (BeforePlus a b) types = found (typeBefore+ (typingOf (typeAt types a)) (typingOf (typeAt types b)))
+typeNode (AfterMinus a b) types = found (typeAfter- (typingOf (typeAt types a)) (typingOf (typeAt types b)))
+typeNode (AfterPlus a b) types = found (typeAfter+ (typingOf (typeAt types a)) (typingOf (typeAt types b)))
+typeNode (Fulfilling k a b c) types =
+    found (typeFulfilling k (typingOf (typeAt types a)) (typingOf (typeAt types b)) (typingOf (typeAt types c)))
+typeNode (Ignoring a b) types = ifFormula (typeAt types a) (found (typeIgnoring (typingOf (typeAt types b))))
