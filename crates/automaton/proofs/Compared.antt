@@ -3,6 +3,7 @@
 use mathlib.Core.Path.{_≡_, refl, sym, _∙_}
 use mathlib.Core.List.{List}
 use Prim.Native.Nat.{ℕ, _+_, _*_, _≤_, _<_}
+use native.Mathlib.Nat.{suc-mul, mul-le-mul-right}
 use native.Mathlib.Omega.{arith}
 use lib.Dec.{eqb}
 use lib.ListN.{getD}
@@ -13,6 +14,10 @@ use Rattle.automaton.proofs.Build.{decides-eqb}
 -- the class behind an action
 abbrev pub behindOf : (actions : ℕ) (next classes : List ℕ) (s a : ℕ) → ℕ
 behindOf actions next classes s a = classOf classes (getD next (s * actions + a) 0)
+
+-- a state's entries lie within the list
+pub entries-within : (states actions n s : ℕ) → n ≡ states * actions → s < states → s * actions + actions ≤ n
+entries-within states actions n s e h = omega (arith, suc-mul s actions, mul-le-mul-right actions h)
 
 module _ (actions : ℕ) (next classes : List ℕ) where
   pub signature-sym : (s t : ℕ) → SameSignature actions next classes s t → SameSignature actions next classes t s
