@@ -1,5 +1,7 @@
 pub mod Build
 pub mod Compared
+pub mod Counted
 pub mod Grown
 pub mod Pigeon
 pub mod Splits
+pub mod Stable
