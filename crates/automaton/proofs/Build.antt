@@ -9,7 +9,7 @@ use native.Mathlib.Numerals.{add-one}
 use native.Mathlib.Omega.{arith}
 use borrow.Author.Tests.{eq-eqb, ne-eqb}
 use lib.Dec.{eqb}
-use lib.ListN.{length, getD, set, drop, length-append, length-drop, List·getD-append, drop-of-length-le}
+use lib.ListN.{length, getD, set, drop, length-append, List·getD-append, drop-of-length-le}
 use lib.Seq.{drop-cons, set-at, getD-at, ext-getD, append-snoc}
 use Rattle.automaton.specs.Build.{build, Decides}
 
@@ -38,9 +38,6 @@ build-store f k l h =
     rw (add-one k, drop-cons l k 0)
     (set-at (build k f) (getD l k 0) (drop (suc k) l) (f k) k (length-build k f) ∙ sym (append-snoc (build k f) (f k) (drop (suc k) l)))
 
-pub length-built : (f : ℕ → ℕ) (k : ℕ) (l : List ℕ) → k ≤ length l → length (build k f ++ drop k l) ≡ length l
-length-built f k l h = length-append (build k f) (drop k l) ∙ omega (arith, length-build k f, length-drop k l)
-
 -- nothing is left of what was there
 pub stored-all : (p l : List ℕ) (k : ℕ) → length l ≤ k → p ++ drop k l ≡ p
 stored-all p l k h = rw (drop-of-length-le l h) (append-nil p)
@@ -56,8 +53,8 @@ build-getD l = ext-getD 0 (build (length l) (λ k. getD l k 0)) l (length-build 
 pub decides-eqb : (P : Type 0) (m n : ℕ) → (m ≡ n → P) → ((m ≡ n → ⊥) → P → ⊥) → Decides P (eqb m n)
 decides-eqb P m n f g =
     elim (ℕ-discrete m n) [
-      yes p ↦ subst (λ (b : Bool). Decides P b) (sym (eq-eqb m n p)) (f p)
-    | no q ↦ subst (λ (b : Bool). Decides P b) (sym (ne-eqb m n q)) (g q)
+      | yes p ↦ subst (λ (b : Bool). Decides P b) (sym (eq-eqb m n p)) (f p)
+      | no q ↦ subst (λ (b : Bool). Decides P b) (sym (ne-eqb m n q)) (g q)
     ]
 
 pub decided : (P : Type 0) (b : Bool) → Decides P b → b ≡ true → P

@@ -32,10 +32,10 @@ module _ (actions : ℕ) (next classes : List ℕ) where
   module _ (s t a : ℕ) where
     -- no action left to compare
     pub all-compared : classOf classes s ≡ classOf classes t
-      → a ≤ actions
-      → ((k : ℕ) → k < a → behindOf actions next classes s k ≡ behindOf actions next classes t k)
-      → actions ≤ a
-      → Decides (SameSignature actions next classes s t) (eqb a actions)
+        → a ≤ actions
+        → ((k : ℕ) → k < a → behindOf actions next classes s k ≡ behindOf actions next classes t k)
+        → actions ≤ a
+        → Decides (SameSignature actions next classes s t) (eqb a actions)
     all-compared e h f g = decides-eqb (SameSignature actions next classes s t) a actions same differ
       where
         same : a ≡ actions → SameSignature actions next classes s t
@@ -46,8 +46,8 @@ module _ (actions : ℕ) (next classes : List ℕ) where
 
     -- a difference behind action a
     pub left-at-difference : a < actions
-      → (behindOf actions next classes s a ≡ behindOf actions next classes t a → ⊥)
-      → Decides (SameSignature actions next classes s t) (eqb a actions)
+        → (behindOf actions next classes s a ≡ behindOf actions next classes t a → ⊥)
+        → Decides (SameSignature actions next classes s t) (eqb a actions)
     left-at-difference h d = decides-eqb (SameSignature actions next classes s t) a actions same (λ q p. d (p .behind a h))
       where
         same : a ≡ actions → SameSignature actions next classes s t

@@ -30,8 +30,8 @@ module _ (R : ℕ → ℕ → Type 0) (states count : ℕ) (classes firsts : Lis
   partition-classified = record { pick = firstOf firsts; below = p .below; inside = p .inside; own = p .own }
 
 module _ (R : ℕ → ℕ → Type 0) (states : ℕ) (symmetric : (s t : ℕ) → R s t → R t s) (transitive : (s t u : ℕ) → R s t → R t u → R s u)
-  (classes : List ℕ) (coarser : (s t : ℕ) → R s t → classOf classes s ≡ classOf classes t) (count : ℕ) (k : Classified states count classes)
-  (finer : ℕ) (split firsts : List ℕ) (p : Partition R states finer split firsts) where
+    (classes : List ℕ) (coarser : (s t : ℕ) → R s t → classOf classes s ≡ classOf classes t) (count : ℕ) (k : Classified states count classes)
+    (finer : ℕ) (split firsts : List ℕ) (p : Partition R states finer split firsts) where
   -- picks of two classes are not related
   apart : (f : ℕ → ℕ) → ((c : ℕ) → c < count → classOf classes (f c) ≡ c) → (c d : ℕ) → c < d → d < count → R (f c) (f d) → ⊥
   apart f own c d l h r = omega (arith, coarser (f c) (f d) r, own c (omega arith), own d h)
@@ -39,8 +39,8 @@ module _ (R : ℕ → ℕ → Type 0) (states : ℕ) (symmetric : (s t : ℕ) �
   pub no-fewer : count ≤ finer
   no-fewer =
       elim (decLt finer count) [
-        yes h ↦ absurd (over-not-partition R states symmetric transitive finer split firsts p finer (over h) (omega arith))
-      | no q ↦ omega arith
+        | yes h ↦ absurd (over-not-partition R states symmetric transitive finer split firsts p finer (over h) (omega arith))
+        | no q ↦ omega arith
       ]
     where
       over : finer < count → Over R states finer
@@ -54,8 +54,8 @@ module _ (R : ℕ → ℕ → Type 0) (states : ℕ) (symmetric : (s t : ℕ) �
   pub unchanged : finer ≤ count → (s t : ℕ) → s < states → t < states → classOf classes s ≡ classOf classes t → R s t
   unchanged h s t hs ht e =
       elim (ℕ-discrete (classOf split s) (classOf split t)) [
-        yes q ↦ class-related R states symmetric transitive finer split firsts p s t hs ht q
-      | no q ↦ absurd (over-not-partition R states symmetric transitive finer split firsts p count (over q) h)
+        | yes q ↦ class-related R states symmetric transitive finer split firsts p s t hs ht q
+        | no q ↦ absurd (over-not-partition R states symmetric transitive finer split firsts p count (over q) h)
       ]
     where
       -- s for its own class
@@ -65,15 +65,15 @@ module _ (R : ℕ → ℕ → Type 0) (states : ℕ) (symmetric : (s t : ℕ) �
       inside : (c : ℕ) → c < count → f c < states
       inside c l =
           elim (ℕ-discrete c (classOf classes s)) [
-            yes q ↦ rw (q, update-same (k .pick) (classOf classes s) s) hs
-          | no q ↦ rw (update-other (k .pick) (classOf classes s) s c q) (k .inside c l)
+            | yes q ↦ rw (q, update-same (k .pick) (classOf classes s) s) hs
+            | no q ↦ rw (update-other (k .pick) (classOf classes s) s c q) (k .inside c l)
           ]
 
       own : (c : ℕ) → c < count → classOf classes (f c) ≡ c
       own c l =
           elim (ℕ-discrete c (classOf classes s)) [
-            yes q ↦ ap (classOf classes) (ap f q ∙ update-same (k .pick) (classOf classes s) s) ∙ sym q
-          | no q ↦ rw (update-other (k .pick) (classOf classes s) s c q) (k .own c l)
+            | yes q ↦ ap (classOf classes) (ap f q ∙ update-same (k .pick) (classOf classes s) s) ∙ sym q
+            | no q ↦ rw (update-other (k .pick) (classOf classes s) s c q) (k .own c l)
           ]
 
       -- t is related to no pick

@@ -1,6 +1,6 @@
 -- A partition of the states below s grows by the state s, which joins a class or begins one.
 -- Assumes nothing.
-use mathlib.Core.Path.{_≡_, refl, sym}
+use mathlib.Core.Path.{_≡_}
 use mathlib.Core.List.{List}
 use Prim.Native.Nat.{ℕ, _+_, _≤_, _<_}
 use native.Mathlib.Decide.{ℕ-discrete}
@@ -27,8 +27,8 @@ module _ (R : ℕ → ℕ → Type 0) (s count : ℕ) (classes firsts : List ℕ
       below : (t : ℕ) → t < s + 1 → classOf (set classes s c) t < count
       below t l =
           elim (ℕ-discrete t s) [
-            yes e ↦ rw (e, class-new c room) h
-          | no q ↦ rw (class-kept c room t (omega arith)) (p .below t (omega arith))
+            | yes e ↦ rw (e, class-new c room) h
+            | no q ↦ rw (class-kept c room t (omega arith)) (p .below t (omega arith))
           ]
 
       inside : (d : ℕ) → d < count → firstOf firsts d < s + 1
@@ -40,23 +40,23 @@ module _ (R : ℕ → ℕ → Type 0) (s count : ℕ) (classes firsts : List ℕ
       first : (t : ℕ) → t < s + 1 → firstOf firsts (classOf (set classes s c) t) ≤ t
       first t l =
           elim (ℕ-discrete t s) [
-            yes e ↦ rw (e, class-new c room) (omega (arith, p .inside c h))
-          | no q ↦ rw (class-kept c room t (omega arith)) (p .first t (omega arith))
+            | yes e ↦ rw (e, class-new c room) (omega (arith, p .inside c h))
+            | no q ↦ rw (class-kept c room t (omega arith)) (p .first t (omega arith))
           ]
 
       member : (t : ℕ) → t < s + 1 → R (firstOf firsts (classOf (set classes s c) t)) t
       member t l =
           elim (ℕ-discrete t s) [
-            yes e ↦ rw (e, class-new c room) r
-          | no q ↦ rw (class-kept c room t (omega arith)) (p .member t (omega arith))
+            | yes e ↦ rw (e, class-new c room) r
+            | no q ↦ rw (class-kept c room t (omega arith)) (p .member t (omega arith))
           ]
 
   -- s begins class `count`
   pub begins : s < length classes
-    → count < length firsts
-    → R s s
-    → ((c : ℕ) → c < count → R (firstOf firsts c) s → ⊥)
-    → Partition R (s + 1) (count + 1) (set classes s count) (set firsts count s)
+      → count < length firsts
+      → R s s
+      → ((c : ℕ) → c < count → R (firstOf firsts c) s → ⊥)
+      → Partition R (s + 1) (count + 1) (set classes s count) (set firsts count s)
   begins room listed r fresh =
       record { below = below; inside = inside; own = own; first = first; ordered = ordered; member = member; apart = apart }
     where
@@ -69,52 +69,52 @@ module _ (R : ℕ → ℕ → Type 0) (s count : ℕ) (classes firsts : List ℕ
       below : (t : ℕ) → t < s + 1 → classOf (set classes s count) t < count + 1
       below t l =
           elim (ℕ-discrete t s) [
-            yes e ↦ rw (e, class-new count room) (omega arith)
-          | no q ↦ rw (class-kept count room t (omega arith)) (omega (arith, p .below t (omega arith)))
+            | yes e ↦ rw (e, class-new count room) (omega arith)
+            | no q ↦ rw (class-kept count room t (omega arith)) (omega (arith, p .below t (omega arith)))
           ]
 
       inside : (c : ℕ) → c < count + 1 → firstOf (set firsts count s) c < s + 1
       inside c l =
           elim (ℕ-discrete c count) [
-            yes e ↦ rw (e, first-new) (omega arith)
-          | no q ↦ rw (first-kept c (omega arith)) (omega (arith, p .inside c (omega arith)))
+            | yes e ↦ rw (e, first-new) (omega arith)
+            | no q ↦ rw (first-kept c (omega arith)) (omega (arith, p .inside c (omega arith)))
           ]
 
       own : (c : ℕ) → c < count + 1 → classOf (set classes s count) (firstOf (set firsts count s) c) ≡ c
       own c l =
           elim (ℕ-discrete c count) [
-            yes e ↦ rw (e, first-new) (class-new count room)
-          | no q ↦ rw (first-kept c (omega arith), class-kept count room (firstOf firsts c) (p .inside c (omega arith))) (p .own c (omega arith))
+            | yes e ↦ rw (e, first-new) (class-new count room)
+            | no q ↦ rw (first-kept c (omega arith), class-kept count room (firstOf firsts c) (p .inside c (omega arith))) (p .own c (omega arith))
           ]
 
       first : (t : ℕ) → t < s + 1 → firstOf (set firsts count s) (classOf (set classes s count) t) ≤ t
       first t l =
           elim (ℕ-discrete t s) [
-            yes e ↦ rw (e, class-new count room, first-new) (omega arith)
-          | no q ↦ rw (class-kept count room t (omega arith), first-kept (classOf classes t) (p .below t (omega arith))) (p .first t (omega arith))
+            | yes e ↦ rw (e, class-new count room, first-new) (omega arith)
+            | no q ↦ rw (class-kept count room t (omega arith), first-kept (classOf classes t) (p .below t (omega arith))) (p .first t (omega arith))
           ]
 
       ordered : (c d : ℕ) → c < d → d < count + 1 → firstOf (set firsts count s) c < firstOf (set firsts count s) d
       ordered c d l h =
           rw (first-kept c (omega arith))
           (elim (ℕ-discrete d count) [
-            yes e ↦ rw (e, first-new) (p .inside c (omega arith))
-          | no q ↦ rw (first-kept d (omega arith)) (p .ordered c d l (omega arith))
+            | yes e ↦ rw (e, first-new) (p .inside c (omega arith))
+            | no q ↦ rw (first-kept d (omega arith)) (p .ordered c d l (omega arith))
           ])
 
       member : (t : ℕ) → t < s + 1 → R (firstOf (set firsts count s) (classOf (set classes s count) t)) t
       member t l =
           elim (ℕ-discrete t s) [
-            yes e ↦ rw (e, class-new count room, first-new) r
-          | no q ↦ rw (class-kept count room t (omega arith), first-kept (classOf classes t) (p .below t (omega arith))) (p .member t (omega arith))
+            | yes e ↦ rw (e, class-new count room, first-new) r
+            | no q ↦ rw (class-kept count room t (omega arith), first-kept (classOf classes t) (p .below t (omega arith))) (p .member t (omega arith))
           ]
 
       apart : (c d : ℕ) → c < d → d < count + 1 → R (firstOf (set firsts count s) c) (firstOf (set firsts count s) d) → ⊥
       apart c d l h =
           rw (first-kept c (omega arith))
           (elim (ℕ-discrete d count) [
-            yes e ↦ rw (e, first-new) (fresh c (omega arith))
-          | no q ↦ rw (first-kept d (omega arith)) (p .apart c d l (omega arith))
+            | yes e ↦ rw (e, first-new) (fresh c (omega arith))
+            | no q ↦ rw (first-kept d (omega arith)) (p .apart c d l (omega arith))
           ])
 
   -- s would begin one class too many

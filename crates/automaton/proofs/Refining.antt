@@ -1,6 +1,6 @@
 -- What holds between the passes of a refinement, and what each pass makes of it.
 -- Assumes nothing.
-use mathlib.Core.Path.{_≡_, refl, sym, subst}
+use mathlib.Core.Path.{_≡_, subst}
 use mathlib.Core.List.{List}
 use Prim.Native.Nat.{ℕ, _≤_, _<_}
 use native.Mathlib.Omega.{arith}
@@ -34,7 +34,7 @@ one-refining states actions limit next classes h some e =
     zeros s g = rw e (getD-replicate states s 0 255 g)
 
 module _ (states actions limit count : ℕ) (next classes : List ℕ) (r : Refining states actions limit count next classes)
-  (found : Refined) (split firsts : List ℕ) (p : SplitsTo (SameSignature actions next classes) (length classes) limit found split firsts) where
+    (found : Refined) (split firsts : List ℕ) (p : SplitsTo (SameSignature actions next classes) (length classes) limit found split firsts) where
   -- a pass that finds too many classes
   pub too-many : found ≡ TooMany → (mark : ℕ) → Machine mark states actions next → Over (AlikeStates mark actions next) states limit
   too-many e mark m =
@@ -62,12 +62,11 @@ module _ (states actions limit count : ℕ) (next classes : List ℕ) (r : Refin
 
     -- a pass that finds no more
     pub stable : limit ≤ 255 → finer ≡ count → (mark : ℕ) → Machine mark states actions next → (count ≤ limit) × Partition (AlikeStates mark actions next) states count split firsts
-    stable small same mark m =
-        (
-          r .few,
-          subst (λ (n : ℕ). Partition (AlikeStates mark actions next) states n split firsts) same
+    stable small same mark m = (
+      r .few,
+      subst (λ (n : ℕ). Partition (AlikeStates mark actions next) states n split firsts) same
           (stable-partition mark states actions next classes m (r .paired) (r .sound mark m) finer split firsts (split-by .1) count
           (omega (arith, r .few))
           (r .classified)
           (omega arith)),
-        )
+    )

@@ -1,6 +1,6 @@
 -- Laws of partitions of the states by a relation, and of more than `limit` states no two of which are related.
 -- Assumes nothing.
-use mathlib.Core.Path.{_≡_, refl, sym, subst, subst₂}
+use mathlib.Core.Path.{_≡_, refl}
 use mathlib.Core.List.{List}
 use Prim.Native.Nat.{ℕ, suc, _≤_, _<_}
 use native.Mathlib.Decide.{ℕ-discrete, decLt}
@@ -35,30 +35,30 @@ update-other f i x c n = go (ℕ-discrete c i)
 module _ (R : ℕ → ℕ → Type 0) (states : ℕ) where
   -- `limit` states, no two related, and one more that is related to none of them
   pub over-extend : (f : ℕ → ℕ) (limit s : ℕ)
-    → ((c : ℕ) → c < limit → f c < states)
-    → s < states
-    → ((c d : ℕ) → c < d → d < limit → R (f c) (f d) → ⊥)
-    → ((c : ℕ) → c < limit → R (f c) s → ⊥)
-    → Over R states limit
+      → ((c : ℕ) → c < limit → f c < states)
+      → s < states
+      → ((c d : ℕ) → c < d → d < limit → R (f c) (f d) → ⊥)
+      → ((c : ℕ) → c < limit → R (f c) s → ⊥)
+      → Over R states limit
   over-extend f limit s inside new apart fresh = record { pick = update f limit s; inside = within; apart = unrelated }
     where
       within : (c : ℕ) → c ≤ limit → update f limit s c < states
       within c h =
           elim (ℕ-discrete c limit) [
-            yes p ↦ rw (p, update-same f limit s) new
-          | no q ↦ rw (update-other f limit s c q) (inside c (omega arith))
+            | yes p ↦ rw (p, update-same f limit s) new
+            | no q ↦ rw (update-other f limit s c q) (inside c (omega arith))
           ]
 
       unrelated : (c d : ℕ) → c < d → d ≤ limit → R (update f limit s c) (update f limit s d) → ⊥
       unrelated c d l h =
           rw (update-other f limit s c (omega arith))
           (elim (ℕ-discrete d limit) [
-            yes p ↦ rw (p, update-same f limit s) (fresh c (omega arith))
-          | no q ↦ rw (update-other f limit s d q) (apart c d l (omega arith))
+            | yes p ↦ rw (p, update-same f limit s) (fresh c (omega arith))
+            | no q ↦ rw (update-other f limit s d q) (apart c d l (omega arith))
           ])
 
   module _ (symmetric : (s t : ℕ) → R s t → R t s) (transitive : (s t u : ℕ) → R s t → R t u → R s u) (count : ℕ) (classes firsts : List ℕ)
-    (p : Partition R states count classes firsts) where
+      (p : Partition R states count classes firsts) where
     -- states of one class are related
     pub class-related : (s t : ℕ) → s < states → t < states → classOf classes s ≡ classOf classes t → R s t
     class-related s t h g e =
@@ -75,10 +75,10 @@ module _ (R : ℕ → ℕ → Type 0) (states : ℕ) where
     pub related-class : (s t : ℕ) → s < states → t < states → R s t → classOf classes s ≡ classOf classes t
     related-class s t h g r =
         elim (ℕ-discrete (classOf classes s) (classOf classes t)) [
-          yes e ↦ e
-        | no q ↦ elim (decLt (classOf classes s) (classOf classes t)) [
-            yes l ↦ absurd (p .apart (classOf classes s) (classOf classes t) l (p .below t g) (between s t h g r))
-          | no m ↦ absurd (p .apart (classOf classes t) (classOf classes s) (omega arith) (p .below s h) (between t s g h (symmetric s t r)))
+          | yes e ↦ e
+          | no q ↦ elim (decLt (classOf classes s) (classOf classes t)) [
+            | yes l ↦ absurd (p .apart (classOf classes s) (classOf classes t) l (p .below t g) (between s t h g r))
+            | no m ↦ absurd (p .apart (classOf classes t) (classOf classes s) (omega arith) (p .below s h) (between t s g h (symmetric s t r)))
           ]
         ]
 
@@ -105,9 +105,9 @@ module _ (R Q : ℕ → ℕ → Type 0) (states : ℕ) (to : (s t : ℕ) → s <
       unrelated c d l h r = o .apart c d l h (to (o .pick c) (o .pick d) (o .inside c (omega arith)) (o .inside d h) r)
 
   pub partition-map : ((s t : ℕ) → s < states → t < states → Q s t → R s t)
-    → (count : ℕ) (classes firsts : List ℕ)
-    → Partition R states count classes firsts
-    → Partition Q states count classes firsts
+      → (count : ℕ) (classes firsts : List ℕ)
+      → Partition R states count classes firsts
+      → Partition Q states count classes firsts
   partition-map from count classes firsts p =
       record {
         below = p .below;

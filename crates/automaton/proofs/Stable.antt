@@ -39,13 +39,13 @@ module _ (Q : ℕ → ℕ → Type 0) (mark states e f : ℕ) where
   unfolding Both
   related-both he hf r =
       elim (ℕ-discrete e mark) [
-        yes p ↦ elim (ℕ-discrete f mark) [
-          yes q ↦ inl (p, q)
-        | no q ↦ absurd (rw (move-trip mark e p, move-go mark f q) at r)
+        | yes p ↦ elim (ℕ-discrete f mark) [
+          | yes q ↦ inl (p, q)
+          | no q ↦ absurd (rw (move-trip mark e p, move-go mark f q) at r)
         ]
-      | no p ↦ elim (ℕ-discrete f mark) [
-          yes q ↦ absurd (rw (move-go mark e p, move-trip mark f q) at r)
-        | no q ↦ inr (he p, hf q, rw (move-go mark e p, move-go mark f q) at r)
+        | no p ↦ elim (ℕ-discrete f mark) [
+          | yes q ↦ absurd (rw (move-go mark e p, move-trip mark f q) at r)
+          | no q ↦ inr (he p, hf q, rw (move-go mark e p, move-go mark f q) at r)
         ]
       ]
 
@@ -65,7 +65,7 @@ module _ (mark states actions : ℕ) (next classes : List ℕ) (m : Machine mark
 
   -- alike states have one signature
   pub alike-signature : Sound mark states actions next classes
-    → (s t : ℕ) → s < states → t < states → AlikeStates mark actions next s t → SameSignature actions next classes s t
+      → (s t : ℕ) → s < states → t < states → AlikeStates mark actions next s t → SameSignature actions next classes s t
   unfolding Both
   alike-signature k s t hs ht e = record { class = k .same s t hs ht e; behind = behind }
     where
@@ -76,16 +76,16 @@ module _ (mark states actions : ℕ) (next classes : List ℕ) (m : Machine mark
       behind : (a : ℕ) → a < actions → behindOf actions next classes s a ≡ behindOf actions next classes t a
       behind a h =
           behind-entry s a hs h
-            ∙ same (getD next (s * actions + a) mark) (getD next (t * actions + a) mark)
-            (related-both (AlikeStates mark actions next) mark states (getD next (s * actions + a) mark) (getD next (t * actions + a) mark)
-            (entry-closed s a hs h)
-            (entry-closed t a ht h)
-            (alike-next actions (transition mark actions next) (transition mark actions next) e a h))
-            ∙ sym (behind-entry t a ht h)
+          ∙ same (getD next (s * actions + a) mark) (getD next (t * actions + a) mark)
+          (related-both (AlikeStates mark actions next) mark states (getD next (s * actions + a) mark) (getD next (t * actions + a) mark)
+          (entry-closed s a hs h)
+          (entry-closed t a ht h)
+          (alike-next actions (transition mark actions next) (transition mark actions next) e a h))
+          ∙ sym (behind-entry t a ht h)
 
   -- where states of one class have one signature, they are alike
   module _ (count : ℕ) (few : count ≤ 255) (below : (s : ℕ) → s < states → classOf classes s < count)
-    (signature : (s t : ℕ) → s < states → t < states → classOf classes s ≡ classOf classes t → SameSignature actions next classes s t) where
+      (signature : (s t : ℕ) → s < states → t < states → classOf classes s ≡ classOf classes t → SameSignature actions next classes s t) where
     OneClass : ℕ → ℕ → Type 0
     OneClass s t = (s < states) × (t < states) × (classOf classes s ≡ classOf classes t)
 
@@ -97,13 +97,13 @@ module _ (mark states actions : ℕ) (next classes : List ℕ) (m : Machine mark
         both : (x y : ℕ) → ((x ≡ mark → ⊥) → x < states) → ((y ≡ mark → ⊥) → y < states) → classOf classes x ≡ classOf classes y → Both OneClass mark states x y
         both x y hx hy q =
             elim (ℕ-discrete x mark) [
-              yes i ↦ elim (ℕ-discrete y mark) [
-                yes j ↦ inl (i, j)
-              | no j ↦ absurd (omega (arith, class-mark x i, below y (hy j)))
+              | yes i ↦ elim (ℕ-discrete y mark) [
+                | yes j ↦ inl (i, j)
+                | no j ↦ absurd (omega (arith, class-mark x i, below y (hy j)))
               ]
-            | no i ↦ elim (ℕ-discrete y mark) [
-                yes j ↦ absurd (omega (arith, class-mark y j, below x (hx i)))
-              | no j ↦ inr (hx i, hy j, (hx i, hy j, q))
+              | no i ↦ elim (ℕ-discrete y mark) [
+                | yes j ↦ absurd (omega (arith, class-mark y j, below x (hx i)))
+                | no j ↦ inr (hx i, hy j, (hx i, hy j, q))
               ]
             ]
 
@@ -126,7 +126,7 @@ module _ (mark states actions : ℕ) (next classes : List ℕ) (m : Machine mark
       pass-sound =
           record {
             same = λ s t hs ht e. related-class (SameSignature actions next classes) states (signature-sym actions next classes) (signature-trans actions next classes)
-              finer split firsts p s t hs ht (alike-signature k s t hs ht e);
+                finer split firsts p s t hs ht (alike-signature k s t hs ht e);
           }
 
       -- a pass that finds no class more has found the classes of alike states

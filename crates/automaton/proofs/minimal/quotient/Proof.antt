@@ -1,22 +1,18 @@
 -- `minimal::quotient` meets its contract. The loop's invariant: the quotient's first k entries, and then what was there.
 -- Assumes nothing.
-use mathlib.Core.Path.{_≡_, refl, sym, ap, _∙_}
+use mathlib.Core.Path.{_≡_, refl}
 use mathlib.Core.List.{_++_}
-use Prim.Native.Nat.{ℕ, _+_, _*_, _/_, _%_, _≤_, _<_, _-_}
+use Prim.Native.Nat.{_+_, _*_, _/_, _%_, _≤_, _<_, _-_}
 use native.Mathlib.Nat.{div-lt-iff-lt-mul, mod-lt}
 use native.Mathlib.Omega.{arith}
 use borrow.Author.Needs.{needs}
-use lib.ListN.{length, getD, drop, length-set}
+use lib.ListN.{length, drop, length-set}
 use Rattle.automaton.specs.Build.{build}
-use Rattle.automaton.specs.Partition.{classOf, firstOf}
+use Rattle.automaton.specs.Partition.{firstOf}
 use Rattle.automaton.specs.Quotient.{quotientEntry}
 use Rattle.automaton.proofs.Build.{build-store}
 use Rattle.automaton.proofs.minimal.quotient.Statement.{statement}
 use Rattle.automaton.proofs.minimal.quotient.Tie as tie
-use Rattle.automaton.proofs.minimal.quotient.Reads as reads
-use Rattle.automaton.proofs.minimal.quotient.Lts as lts
-use Rattle.automaton.proofs.signature.class_of.Reads as class-of-reads
-use Rattle.automaton.proofs.signature.index.Reads as index-reads
 
 abbrev Inv-loop : tie.InvT-loop
 Inv-loop next classes firsts actions count out₀ k₀ out k =
@@ -88,8 +84,7 @@ loop-again : tie.Need-loop-again Inv-loop μ-loop
 loop-again c =
     let v = c .before .before .before .before .before .loop in
     let g = start (c .before .before .before .before) .args in
-    let f = quotientEntry (g .actions) (g .next .now) (g .classes .now) (g .firsts .now) in
-    (
+    let f = quotientEntry (g .actions) (g .next .now) (g .classes .now) (g .firsts .now) in (
       omega arith,
       simp length-set (v .inv .1),
       rw (c .class-of .ensures, c .before .index .ensures, v .inv .2) (build-store f (v .k) (g .out .now) (omega arith)),

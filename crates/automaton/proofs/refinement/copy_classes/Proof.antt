@@ -2,15 +2,13 @@
 -- Assumes nothing.
 use mathlib.Core.Path.{_≡_, refl, ap, _∙_}
 use mathlib.Core.List.{_++_}
-use Prim.Native.Nat.{ℕ, _≤_, _<_, _-_}
+use Prim.Native.Nat.{ℕ, _≤_, _-_}
 use native.Mathlib.Omega.{arith}
 use lib.ListN.{length, getD, drop, length-set}
 use Rattle.automaton.specs.Build.{build}
 use Rattle.automaton.proofs.Build.{build-store, stored-all, build-getD}
 use Rattle.automaton.proofs.refinement.copy_classes.Statement.{statement}
 use Rattle.automaton.proofs.refinement.copy_classes.Tie as tie
-use Rattle.automaton.proofs.refinement.copy_classes.Reads as reads
-use Rattle.automaton.proofs.refinement.copy_classes.Lts as lts
 
 abbrev Inv-loop : tie.InvT-loop
 Inv-loop from to₀ s₀ to s = (s ≤ length from) × (length to ≡ length from) × (length to₀ ≡ length from) × (to ≡ build s (λ k. getD from k 0) ++ drop s to₀)
@@ -36,8 +34,7 @@ loop-less c = omega arith
 loop-again : tie.Need-loop-again Inv-loop μ-loop
 loop-again c =
     let g = c .before .before .before .args in
-    let s = c .before .before .loop .s in
-    (
+    let s = c .before .before .loop .s in (
       omega arith,
       simp length-set (c .before .before .loop .inv .1),
       c .before .before .loop .inv .2,

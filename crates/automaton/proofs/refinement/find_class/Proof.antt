@@ -1,19 +1,14 @@
 -- `refinement::find_class` meets its contract. The loop's invariant: no first member of a class below c has the signature of s.
 -- Assumes nothing.
-use mathlib.Core.Path.{_≡_}
 use Prim.Native.Nat.{ℕ, _≤_, _<_, _-_}
 use native.Mathlib.Omega.{arith}
 use borrow.Author.Count.{below-more}
-use borrow.Author.Needs.{needs}
 use lib.ListN.{length}
-use Rattle.automaton.specs.Partition.{firstOf, SameSignature, ClassFound}
+use Rattle.automaton.specs.Partition.{firstOf, SameSignature}
 use Rattle.automaton.proofs.Build.{decided, refused}
 use Rattle.automaton.proofs.Compared.{entries-within}
 use Rattle.automaton.proofs.refinement.find_class.Statement.{statement}
 use Rattle.automaton.proofs.refinement.find_class.Tie as tie
-use Rattle.automaton.proofs.refinement.find_class.Reads as reads
-use Rattle.automaton.proofs.refinement.find_class.Lts as lts
-use Rattle.automaton.proofs.signature.same_signature.Reads as same-signature-reads
 
 abbrev Inv-loop : tie.InvT-loop
 Inv-loop next classes firsts actions count s c₀ c = (c ≤ count) × ((d : ℕ) → d < c → SameSignature actions next classes (firstOf firsts d) s → ⊥)
@@ -34,8 +29,7 @@ same-signature-requires : tie.Need-same-signature-requires Inv-loop μ-loop
 same-signature-requires c κs =
     let z = c .before .before .before .before .before .before in
     let x = c .before .before .loop .c in
-    let h : x < z .args .count = omega arith in
-    (
+    let h : x < z .args .count = omega arith in (
       entries-within (length (z .args .classes .now)) (z .args .actions) (length (z .args .next .now)) (firstOf (z .args .firsts .now) x) (z .pre .sized) (z .pre .inside x h),
       entries-within (length (z .args .classes .now)) (z .args .actions) (length (z .args .next .now)) (z .args .s) (z .pre .sized) (z .pre .state),
     )

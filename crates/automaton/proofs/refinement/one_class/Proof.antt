@@ -1,16 +1,14 @@
 -- `refinement::one_class` meets its contract. The loop's invariant: zeros, and then what was there.
 -- Assumes nothing.
-use mathlib.Core.Path.{_≡_, refl, sym, _∙_, ap}
+use mathlib.Core.Path.{_≡_, refl, _∙_, ap}
 use mathlib.Core.List.{_++_}
 use Prim.Native.Nat.{ℕ, _≤_, _-_}
 use native.Mathlib.Omega.{arith}
 use borrow.Author.Fill.{fill-none, fill-more}
-use lib.ListN.{length, drop, replicate, length-append, length-replicate, length-drop, length-set}
+use lib.ListN.{length, drop, replicate, length-set}
 use Rattle.automaton.proofs.Build.{stored-all}
 use Rattle.automaton.proofs.refinement.one_class.Statement.{statement}
 use Rattle.automaton.proofs.refinement.one_class.Tie as tie
-use Rattle.automaton.proofs.refinement.one_class.Reads as reads
-use Rattle.automaton.proofs.refinement.one_class.Lts as lts
 
 abbrev Inv-loop : tie.InvT-loop
 Inv-loop classes₀ s₀ classes s = (s ≤ length classes₀) × (length classes ≡ length classes₀) × (classes ≡ replicate s 0 ++ drop s classes₀)
@@ -31,12 +29,11 @@ loop-less : tie.Need-loop-less Inv-loop μ-loop
 loop-less c = omega arith
 
 loop-again : tie.Need-loop-again Inv-loop μ-loop
-loop-again c =
-    (
-      omega arith,
-      simp length-set (c .before .loop .inv .1),
-      rw (c .before .loop .inv .2) (fill-more (c .before .loop .s) 0 (c .before .before .args .classes .now) (omega arith)),
-    )
+loop-again c = (
+  omega arith,
+  simp length-set (c .before .loop .inv .1),
+  rw (c .before .loop .inv .2) (fill-more (c .before .loop .s) 0 (c .before .before .args .classes .now) (omega arith)),
+)
 
 same-length : tie.Need-same-length Inv-loop μ-loop
 same-length c = omega arith

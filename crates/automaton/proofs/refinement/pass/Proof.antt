@@ -1,37 +1,31 @@
 -- `refinement::pass` meets its contract. The loop's invariant: the states below s are split by their signatures.
 -- Assumes nothing.
-use mathlib.Core.Path.{_≡_, refl, sym, subst}
+use mathlib.Core.Path.{_≡_, refl}
 use mathlib.Core.Logic.{⊎-elim}
-use Prim.Native.Nat.{ℕ, _≤_, _<_, _-_}
+use Prim.Native.Nat.{_≤_, _-_}
 use native.Mathlib.Nat.{lt-of-lt-of-le}
 use native.Mathlib.Omega.{arith}
-use borrow.Author.Needs.{needs}
 use lib.ListN.{length, length-set}
-use Rattle.automaton.specs.Partition.{firstOf, SameSignature, Partition}
+use Rattle.automaton.specs.Partition.{SameSignature, Partition}
 use Rattle.automaton.proofs.Grown.{none-yet, joins, begins, exceeds}
 use Rattle.automaton.proofs.Compared.{signature-refl}
 use Rattle.automaton.proofs.refinement.pass.Statement.{statement}
 use Rattle.automaton.proofs.refinement.pass.Tie as tie
-use Rattle.automaton.proofs.refinement.pass.Reads as reads
-use Rattle.automaton.proofs.refinement.pass.Lts as lts
-use Rattle.automaton.proofs.refinement.find_class.Reads as find-class-reads
 
 abbrev Inv-loop : tie.InvT-loop
 Inv-loop next classes finer₀ firsts₀ actions limit count₀ s₀ finer firsts count s =
     (s ≤ length classes)
-      × (count ≤ limit)
-      × (length finer ≡ length finer₀)
-      × (length firsts ≡ length firsts₀)
-      × Partition (SameSignature actions next classes) s count finer firsts
+    × (count ≤ limit)
+    × (length finer ≡ length finer₀)
+    × (length firsts ≡ length firsts₀)
+    × Partition (SameSignature actions next classes) s count finer firsts
 
 abbrev μ-loop : tie.MeasureT-loop
 μ-loop next classes finer₀ firsts₀ actions limit count₀ s₀ finer firsts count s = length classes - s
 
--- src/refinement.rt:32:5
 loop-holds : tie.Need-loop-holds Inv-loop μ-loop
 loop-holds c = (omega arith, omega arith, refl, refl, none-yet _ _ _)
 
--- src/refinement.rt:33:13
 find-class-requires : tie.Need-find-class-requires Inv-loop μ-loop
 find-class-requires c κs =
     let z = c .before .before .before .before .before .before .before in
@@ -43,15 +37,12 @@ find-class-requires c κs =
       state = c .before .loop-test .taken;
     }
 
--- src/refinement.rt:36:17
 same-length : tie.Need-same-length Inv-loop μ-loop
 same-length c = omega arith
 
--- src/refinement.rt:36:17
 same-length-2 : tie.Need-same-length-2 Inv-loop μ-loop
 same-length-2 c = omega arith
 
--- src/refinement.rt:36:17
 returns : tie.Need-returns Inv-loop μ-loop
 returns c =
     let z = c .before .before .before .before .before .before .before .before .before .before in
@@ -62,35 +53,27 @@ returns c =
     (exceeds R (v .s) (v .count) (v .finer) (v .firsts) (v .inv .4) (length (z .args .classes .now)) (omega arith)
     (λ d h. found .ensures .lowest d (rw (c .before .if1 .taken) h)))
 
--- src/refinement.rt:38:13
 mul-firsts : tie.Need-mul-firsts Inv-loop μ-loop
 mul-firsts c = omega arith
 
--- src/refinement.rt:38:13
 slice-write-firsts : tie.Need-slice-write-firsts Inv-loop μ-loop
 slice-write-firsts c = omega arith
 
--- src/refinement.rt:39:13
 add-count : tie.Need-add-count Inv-loop μ-loop
 add-count c = omega arith
 
--- src/refinement.rt:41:20
 cast-finer : tie.Need-cast-finer Inv-loop μ-loop
 cast-finer c = omega (arith, c .before .find-class .ensures .within)
 
--- src/refinement.rt:41:9
 slice-write-finer : tie.Need-slice-write-finer Inv-loop μ-loop
 slice-write-finer c = omega arith
 
--- src/refinement.rt:42:9
 add-s : tie.Need-add-s Inv-loop μ-loop
 add-s c = omega arith
 
--- src/refinement.rt:32:5
 loop-less : tie.Need-loop-less Inv-loop μ-loop
 loop-less c = omega arith
 
--- src/refinement.rt:32:5
 loop-again : tie.Need-loop-again Inv-loop μ-loop
 loop-again c =
     let z = c .before .before .before .before .before .before .before .before .before in
@@ -104,8 +87,8 @@ loop-again c =
       simp length-set (v .inv .2),
       rw (w .2) (simp length-set (v .inv .3)),
       rw (w .3, w .2, w .0 .taken)
-      (begins R (v .s) (v .count) (v .finer) (v .firsts) (v .inv .4) (omega arith) (omega arith) (signature-refl _ _ _ _)
-      (λ d h. found .ensures .lowest d (rw (w .0 .taken) h))),
+          (begins R (v .s) (v .count) (v .finer) (v .firsts) (v .inv .4) (omega arith) (omega arith) (signature-refl _ _ _ _)
+          (λ d h. found .ensures .lowest d (rw (w .0 .taken) h))),
     ))
     (λ w. (
       omega arith,
@@ -113,19 +96,16 @@ loop-again c =
       simp length-set (v .inv .2),
       rw (w .1) (v .inv .3),
       rw (w .2, w .1)
-      (joins R (v .s) (v .count) (v .finer) (v .firsts) (v .inv .4) (found .result) (omega arith) (omega arith) (found .ensures .here (omega arith))),
+          (joins R (v .s) (v .count) (v .finer) (v .firsts) (v .inv .4) (found .result) (omega arith) (omega arith) (found .ensures .here (omega arith))),
     ))
     (c .if1 .came)
 
--- src/refinement.rt:26:1
 same-length-3 : tie.Need-same-length-3 Inv-loop μ-loop
 same-length-3 c = omega arith
 
--- src/refinement.rt:26:1
 same-length-4 : tie.Need-same-length-4 Inv-loop μ-loop
 same-length-4 c = omega arith
 
--- src/refinement.rt:26:1
 returns-2 : tie.Need-returns-2 Inv-loop μ-loop
 returns-2 c =
     let z = c .before .before .before .before .before .before in

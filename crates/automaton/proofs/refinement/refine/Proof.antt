@@ -12,11 +12,6 @@ use Rattle.automaton.specs.declared.Refined.the-variants.{Classes, TooMa
 use Rattle.automaton.proofs.Refining.{Refining, one-refining, too-many, no-fewer-found, refines, stable}
 use Rattle.automaton.proofs.refinement.refine.Statement.{statement}
 use Rattle.automaton.proofs.refinement.refine.Tie as tie
-use Rattle.automaton.proofs.refinement.refine.Reads as reads
-use Rattle.automaton.proofs.refinement.refine.Lts as lts
-use Rattle.automaton.proofs.refinement.copy_classes.Reads as copy-classes-reads
-use Rattle.automaton.proofs.refinement.one_class.Reads as one-class-reads
-use Rattle.automaton.proofs.refinement.pass.Reads as pass-reads
 
 abbrev Inv-loop : tie.InvT-loop
 Inv-loop next actions limit classes₀ other₀ firsts₀ count₀ classes other firsts count =
@@ -32,12 +27,11 @@ loop-holds : tie.Need-loop-holds Inv-loop μ-loop
 loop-holds c =
     let z = c .before .before .before .before .before .before .before .before in
     let one = c .before .before .one-class in
-    let e : length (one .last .0) ≡ length (z .args .classes .now) = omega arith in
-    (
+    let e : length (one .last .0) ≡ length (z .args .classes .now) = omega arith in (
       refl,
       refl,
       one-refining (length (one .last .0)) (z .args .actions) (z .args .limit) (z .args .next .now) (one .last .0) (omega arith) (omega arith)
-      (one .ensures ∙ ap (λ (n : ℕ). replicate n 0) (sym e)),
+          (one .ensures ∙ ap (λ (n : ℕ). replicate n 0) (sym e)),
     )
 
 module _ (c : tie.At-loop Inv-loop μ-loop) where
@@ -95,9 +89,9 @@ module _ (c : tie.After-pass Inv-loop μ-loop) where
     found-finer = refines _ _ _ _ _ _ (still-refining turn) (c .pass .result) split firsts-found (c .pass .ensures) finer e (omega arith)
 
     found-stable : finer ≡ turn .loop .count
-      → (mark : ℕ)
-      → IsMachine mark
-      → (turn .loop .count ≤ start turn .args .limit)
+        → (mark : ℕ)
+        → IsMachine mark
+        → (turn .loop .count ≤ start turn .args .limit)
         × Partition (Alike mark) (length (start turn .args .classes .now)) (turn .loop .count) split firsts-found
     found-stable h =
         rw (← all-states turn)

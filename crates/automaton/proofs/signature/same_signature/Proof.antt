@@ -2,19 +2,13 @@
 -- Assumes nothing.
 use mathlib.Core.Path.{_≡_, sym, _∙_}
 use mathlib.Core.Logic.{⊎-elim}
-use Prim.Native.Nat.{ℕ, _≤_, _<_, _+_, _*_, _-_}
+use Prim.Native.Nat.{ℕ, _≤_, _<_, _-_}
 use native.Mathlib.Omega.{arith}
 use borrow.Author.Count.{below-more}
 use borrow.Author.Needs.{needs}
-use lib.ListN.{length, getD}
-use Rattle.automaton.specs.Partition.{classOf, SameSignature}
 use Rattle.automaton.proofs.Compared.{behindOf, all-compared, left-at-difference}
 use Rattle.automaton.proofs.signature.same_signature.Statement.{statement}
 use Rattle.automaton.proofs.signature.same_signature.Tie as tie
-use Rattle.automaton.proofs.signature.same_signature.Reads as reads
-use Rattle.automaton.proofs.signature.same_signature.Lts as lts
-use Rattle.automaton.proofs.signature.class_of.Reads as class-of-reads
-use Rattle.automaton.proofs.signature.index.Reads as index-reads
 
 abbrev Inv-actions : tie.InvT-actions
 Inv-actions next classes actions s t from-s from-t a₀ a =
@@ -23,83 +17,63 @@ Inv-actions next classes actions s t from-s from-t a₀ a =
 abbrev μ-actions : tie.MeasureT-actions
 μ-actions next classes actions s t from-s from-t a₀ a = actions - a
 
--- src/signature.rt:31:8
 class-of-requires : tie.Need-class-of-requires Inv-actions μ-actions
 class-of-requires c κs = search needs
 
--- src/signature.rt:31:32
 class-of-requires-2 : tie.Need-class-of-requires-2 Inv-actions μ-actions
 class-of-requires-2 c κs = search needs
 
--- src/signature.rt:32:9
 returns : tie.Need-returns Inv-actions μ-actions
 returns c e = c .if1 .taken (c .before .before .class-of .ensures ∙ e .class ∙ sym (c .before .class-of2 .ensures))
 
--- src/signature.rt:34:18
 mul-from-s : tie.Need-mul-from-s Inv-actions μ-actions
 mul-from-s c = omega arith
 
--- src/signature.rt:35:18
 mul-from-t : tie.Need-mul-from-t Inv-actions μ-actions
 mul-from-t c = omega arith
 
--- src/signature.rt:37:5
 actions-holds : tie.Need-actions-holds Inv-actions μ-actions
 actions-holds c = (search needs, λ k h. absurd (omega arith))
 
--- src/signature.rt:38:41
 add-index : tie.Need-add-index Inv-actions μ-actions
 add-index c = omega arith
 
--- src/signature.rt:38:36
 mul-index : tie.Need-mul-index Inv-actions μ-actions
 mul-index c = omega arith
 
--- src/signature.rt:38:36
 shared-slice-read-index : tie.Need-shared-slice-read-index Inv-actions μ-actions
 shared-slice-read-index c = omega arith
 
--- src/signature.rt:38:30
 index-requires : tie.Need-index-requires Inv-actions μ-actions
 index-requires c κs = search needs
 
--- src/signature.rt:38:12
 class-of-requires-3 : tie.Need-class-of-requires-3 Inv-actions μ-actions
 class-of-requires-3 c κs = search needs
 
--- src/signature.rt:38:87
 add-index-2 : tie.Need-add-index-2 Inv-actions μ-actions
 add-index-2 c = omega arith
 
--- src/signature.rt:38:82
 mul-index-2 : tie.Need-mul-index-2 Inv-actions μ-actions
 mul-index-2 c = omega arith
 
--- src/signature.rt:38:82
 shared-slice-read-index-2 : tie.Need-shared-slice-read-index-2 Inv-actions μ-actions
 shared-slice-read-index-2 c = omega arith
 
--- src/signature.rt:38:76
 index-requires-2 : tie.Need-index-requires-2 Inv-actions μ-actions
 index-requires-2 c κs = search needs
 
--- src/signature.rt:38:58
 class-of-requires-4 : tie.Need-class-of-requires-4 Inv-actions μ-actions
 class-of-requires-4 c κs = search needs
 
--- src/signature.rt:41:9
 add-a : tie.Need-add-a Inv-actions μ-actions
 add-a c = omega arith
 
--- src/signature.rt:37:5
 actions-less : tie.Need-actions-less Inv-actions μ-actions
 actions-less c = omega arith
 
--- src/signature.rt:37:5
 actions-again : tie.Need-actions-again Inv-actions μ-actions
 actions-again c = (omega arith, below-more _ _ (c .before .before .before .before .before .before .before .before .actions .inv .1) (cc))
 
--- src/signature.rt:27:1
 returns-2 : tie.Need-returns-2 Inv-actions μ-actions
 returns-2 c =
     let g = c .before .before .before .before .before .before .before .args in
