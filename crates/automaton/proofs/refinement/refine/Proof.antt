@@ -127,20 +127,33 @@ same-length-5 c = omega arith
 same-length-6 : tie.Need-same-length-6 Inv-loop μ-loop
 same-length-6 c = omega arith
 
+-- the finer classes, copied
+module _ (c : tie.After-slice-known7 Inv-loop μ-loop) where
+  abbrev passed : tie.After-pass Inv-loop μ-loop
+  passed = c .before .before .before .before .before .before .before .before .before .before .before .before
+
+  abbrev finer-count : ℕ
+  finer-count = c .before .before .before .before .before .before .found .given .0 .0
+
+  is-finer : passed .pass .result ≡ Classes finer-count
+  is-finer = c .before .before .before .before .before .before .found .given .1
+
+  copied : c .before .before .copy-classes .last .1 .0 ≡ split passed
+  copied = c .before .before .copy-classes .ensures
+
 returns-2 : tie.Need-returns-2 Inv-loop μ-loop
-returns-2 c =
-    let f = c .before .before .before .before .before .before .before .found .given in
-    rw (c .before .before .before .copy-classes .ensures) (found-stable (c .before .before .before .before .before .before .before .before .before .before .before .before .before) (f .0 .0) (f .1) (c .if1 .taken))
+returns-2 c = rw (copied (c .before)) (found-stable (passed (c .before)) (finer-count (c .before)) (is-finer (c .before)) (omega arith))
 
 loop-less : tie.Need-loop-less Inv-loop μ-loop
 loop-less c =
-    let f = c .before .before .before .before .before .before .before .found .given in
-    omega (arith, found-no-fewer (c .before .before .before .before .before .before .before .before .before .before .before .before .before) (f .0 .0) (f .1), found-finer (c .before .before .before .before .before .before .before .before .before .before .before .before .before) (f .0 .0) (f .1) .few, c .if1 .left)
+    let p = passed (c .before) in
+    let n = finer-count (c .before) in
+    let e = is-finer (c .before) in
+    omega (arith, found-no-fewer p n e, found-finer p n e .few)
 
 loop-again : tie.Need-loop-again Inv-loop μ-loop
 loop-again c =
-    let f = c .before .before .before .before .before .before .before .found .given in
-    (omega arith, omega arith, rw (c .before .before .before .copy-classes .ensures) (found-finer (c .before .before .before .before .before .before .before .before .before .before .before .before .before) (f .0 .0) (f .1)))
+    (omega arith, omega arith, rw (copied (c .before)) (found-finer (passed (c .before)) (finer-count (c .before)) (is-finer (c .before))))
 
 pub refine-spec : {M : Type 1} → statement M
 refine-spec =
