@@ -2,10 +2,12 @@
 -- Assumes nothing.
 use mathlib.Core.Path.{_≡_, refl}
 use mathlib.Core.List.{_++_}
-use Prim.Native.Nat.{_+_, _*_, _/_, _%_, _≤_, _<_, _-_}
+use Prim.Native.Nat.{ℕ, _+_, _*_, _/_, _%_, _≤_, _<_, _-_}
 use native.Mathlib.Nat.{div-lt-iff-lt-mul, mod-lt}
 use native.Mathlib.Omega.{arith}
 use borrow.Author.Needs.{needs}
+use mir.Syntax.{w64}
+use mir.Val.{Fits}
 use lib.ListN.{length, drop, length-set}
 use Rattle.automaton.specs.Build.{build}
 use Rattle.automaton.specs.Partition.{firstOf}
@@ -41,8 +43,19 @@ module _ (c : tie.In-loop Inv-loop μ-loop) where
   action-below : c .before .loop .k % start .args .actions < start .args .actions
   action-below = mod-lt (c .before .loop .k) (start .pre .acting)
 
-  row-inside : firstOf (start .args .firsts .now) (c .before .loop .k / start .args .actions) * start .args .actions + start .args .actions ≤ length (start .args .next .now)
-  row-inside = start .pre .inside (c .before .loop .k / start .args .actions) row-below
+  row-fits : (x : ℕ) → x < start .args .count → Fits w64 (firstOf (start .args .firsts .now) x * start .args .actions)
+  row-fits x h = omega (arith, start .pre .inside x h)
+
+  -- so far into the entries, of any class
+  module _ (x y : ℕ) (h : x < start .args .count) (g : y < start .args .actions) where
+    entry-inside : firstOf (start .args .firsts .now) x * start .args .actions + y < length (start .args .next .now)
+    entry-inside = omega (arith, start .pre .inside x h)
+
+    entry-fits : Fits w64 (firstOf (start .args .firsts .now) x * start .args .actions + y)
+    entry-fits = omega (arith, entry-inside)
+
+    entry-fits-twice : Fits w64 ((firstOf (start .args .firsts .now) x * start .args .actions + y) * 2)
+    entry-fits-twice = omega (arith, entry-inside)
 
 mul-from : tie.Need-mul-from Inv-loop μ-loop
 mul-from c = omega (arith, row-below c)
@@ -51,19 +64,19 @@ shared-slice-read-from : tie.Need-shared-slice-read-from Inv-loop μ-loop
 shared-slice-read-from c = omega (arith, row-below (c .before))
 
 mul-from-2 : tie.Need-mul-from-2 Inv-loop μ-loop
-mul-from-2 c = omega (arith, row-inside (c .before))
+mul-from-2 c = row-fits (c .before) _ (omega (arith, row-below (c .before)))
 
 rem-index : tie.Need-rem-index Inv-loop μ-loop
 rem-index c = omega arith
 
 add-index : tie.Need-add-index Inv-loop μ-loop
-add-index c = omega (arith, row-inside (c .before), action-below (c .before))
+add-index c = entry-fits (c .before) _ _ (omega (arith, row-below (c .before))) (action-below (c .before))
 
 mul-index : tie.Need-mul-index Inv-loop μ-loop
-mul-index c = omega (arith, row-inside (c .before), action-below (c .before))
+mul-index c = entry-fits-twice (c .before) _ _ (omega (arith, row-below (c .before))) (action-below (c .before))
 
 shared-slice-read-index : tie.Need-shared-slice-read-index Inv-loop μ-loop
-shared-slice-read-index c = omega (arith, row-inside (c .before .before), action-below (c .before .before))
+shared-slice-read-index c = entry-inside (c .before .before) _ _ (omega (arith, row-below (c .before .before))) (action-below (c .before .before))
 
 index-requires : tie.Need-index-requires Inv-loop μ-loop
 index-requires c κs = search needs
