@@ -15,7 +15,7 @@ use Rattle.trace.specs.Trace.{Alike}
 use Rattle.trace.proofs.Laws.{alike-sym, alike-trans}
 use Rattle.automaton.specs.Machine.{transition, Machine, FirstMet, Numbered, Distinct}
 use Rattle.automaton.proofs.Entries.{Matched, both-trip, both-go, met-goes, AlikeIn, alike-matched-from, alike-matched-at, state-below, index-below, action-below}
-use Rattle.automaton.proofs.Pigeon.{pigeon}
+use Rattle.base.proofs.Pigeon.{pigeon}
 
 -- Two machines with the same actions. Both are numbered as first met, and neither has two alike states.
 module _ {actions mark states mark' states' : ℕ} {next next' : List ℕ} (acts : 0 < actions)

@@ -60,12 +60,6 @@ state-below h g = div-lt-iff-lt-mul h .1 g
 pub index-below : {k states actions : ℕ} → 0 < actions → k / actions < states → k < states * actions
 index-below h g = div-lt-iff-lt-mul h .0 g
 
--- inside a list the default is not read
-pub getD-inside : (l : List ℕ) (k d d' : ℕ) → k < length l → getD l k d ≡ getD l k d'
-getD-inside [] k d d' h = absurd (not-suc-le-zero h)
-getD-inside (x ∷ l) zero d d' h = refl
-getD-inside (x ∷ l) (suc k) d d' h = getD-inside l k d d' (le-of-suc-le-suc h)
-
 -- Two machines with the same actions, whose marks may differ.
 module _ (actions mark : ℕ) (next : List ℕ) (mark' : ℕ) (next' : List ℕ) where
   abbrev pub AlikeIn : ℕ → ℕ → Type 0

@@ -1,8 +1,12 @@
-pub mod Build
 pub mod Canonical
 pub mod Classes
+pub mod Compared
+pub mod Counted
 pub mod Entries
+pub mod Grown
 pub mod Numbering
-pub mod Pigeon
 pub mod QuotientNumbered
 pub mod QuotientReads
+pub mod Refining
+pub mod Splits
+pub mod Stable

@@ -11,9 +11,10 @@ use Rattle.trace.proofs.Laws.{Related, alike-sym, alike-trans, bisimilar}
 use Rattle.automaton.specs.Machine.{transition, AlikeStates, Machine, Distinct}
 use Rattle.automaton.specs.Partition.{classOf, firstOf, Partition}
 use Rattle.automaton.specs.Quotient.{quotientEntry, quotientRows}
-use Rattle.automaton.proofs.Build.{length-build, getD-build}
+use Rattle.base.proofs.Lists.{length-build, getD-build}
 use Rattle.automaton.proofs.Classes.{class-zero, same-class}
-use Rattle.automaton.proofs.Entries.{Matched, both-trip, both-go, matched-related, AlikeIn, alike-matched, state-below, action-below, getD-inside}
+use Rattle.automaton.proofs.Entries.{Matched, both-trip, both-go, matched-related, AlikeIn, alike-matched, state-below, action-below}
+use Rattle.base.proofs.Lists.{getD-within}
 
 module _ {mark states actions count : ℕ} {next classes firsts : List ℕ} (acts : 0 < actions) (mc : Machine mark states actions next)
     (pa : Partition (AlikeStates mark actions next) states count classes firsts) (sized : length classes ≡ states) (few : count ≤ 64) where
@@ -31,7 +32,7 @@ module _ {mark states actions count : ℕ} {next classes firsts : List ℕ} (act
   -- a class's entry is the class of its first member's
   pub row-at : (k : ℕ) → k < count * actions → getD rows k 255 ≡ classOf classes (getD next (firstOf firsts (k / actions) * actions + k % actions) mark)
   row-at k h =
-      getD-build (count * actions) (quotientEntry actions next classes firsts) k 255 h ∙ ap (classOf classes) (getD-inside next i 0 mark i-inside)
+      getD-build (count * actions) (quotientEntry actions next classes firsts) k 255 h ∙ ap (classOf classes) (getD-within next i 0 mark i-inside)
     where
       i : ℕ
       i = firstOf firsts (k / actions) * actions + k % actions

@@ -1,4 +1,3 @@
-pub mod Build
 pub mod Machine
 pub mod Partition
 pub mod Quotient

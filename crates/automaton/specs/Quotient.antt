@@ -3,7 +3,7 @@
 use mathlib.Core.List.{List}
 use Prim.Native.Nat.{ℕ, _+_, _*_, _/_, _%_, _≤_, _<_}
 use lib.ListN.{length, getD}
-use Rattle.automaton.specs.Build.{build}
+use Rattle.base.specs.Build.{build}
 use Rattle.automaton.specs.Partition.{classOf, firstOf}
 
 -- Entry k of the quotient, which stands in row k / actions at action k % actions. A trip is 255.

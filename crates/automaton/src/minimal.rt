@@ -8,7 +8,14 @@ ghost use lib.ListN.{drop};
 ghost use Rattle.automaton.specs.Quotient.{quotientRows, Divisible};
 
 // Writes a row for each class: the classes behind its first member, 255 for a trip.
-pub fn quotient(next: &[u16], classes: &[u8], firsts: &[usize], actions: usize, count: usize, out: &mut [u8])
+pub fn quotient(
+    next: &[u16],
+    classes: &[u8],
+    firsts: &[usize],
+    actions: usize,
+    count: usize,
+    out: &mut [u8],
+)
     requires { ⌜ Divisible actions count (now next) (now firsts) (now out) ⌝ }
     ensures { λ _. ⌜ now (out .exit) ≡ quotientRows actions count (now (next .entry)) (now (classes .entry)) (now (firsts .entry)) ++ drop (count * actions) (now (out .entry)) ⌝ }
 {

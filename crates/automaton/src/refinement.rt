@@ -8,7 +8,14 @@ ghost use Rattle.automaton.specs.Machine.{Machine, AlikeStates};
 ghost use Rattle.automaton.specs.Partition.{SameSignature, SplitsTo, ClassFound, Searchable, Refinable};
 
 // The lowest class whose first member has the signature of s, or count where none has.
-fn find_class(next: &[u16], classes: &[u8], firsts: &[usize], actions: usize, count: usize, s: usize) -> usize
+fn find_class(
+    next: &[u16],
+    classes: &[u8],
+    firsts: &[usize],
+    actions: usize,
+    count: usize,
+    s: usize,
+) -> usize
     requires { ⌜ Searchable actions (length (now classes)) count s (now next) (now firsts) ⌝ }
     ensures { λ r. ⌜ ClassFound actions (now (next .entry)) (now (classes .entry)) (now (firsts .entry)) count s r ⌝ }
 {
@@ -23,7 +30,14 @@ fn find_class(next: &[u16], classes: &[u8], firsts: &[usize], actions: usize, co
 }
 
 // One pass: splits the states by their signatures under the classes so far.
-fn pass(next: &[u16], classes: &[u8], finer: &mut [u8], firsts: &mut [usize], actions: usize, limit: usize) -> Refined
+fn pass(
+    next: &[u16],
+    classes: &[u8],
+    finer: &mut [u8],
+    firsts: &mut [usize],
+    actions: usize,
+    limit: usize,
+) -> Refined
     requires { ⌜ Refinable actions limit (now next) (now classes) (now finer) (now firsts) ⌝ }
     ensures { λ r. ⌜ SplitsTo (SameSignature actions (now (next .entry)) (now (classes .entry))) (length (now (classes .entry))) limit r (now (finer .exit)) (now (firsts .exit)) ⌝ }
 {
@@ -68,7 +82,14 @@ fn copy_classes(from: &[u8], to: &mut [u8])
 }
 
 // The classes of alike states, with their first members, or that there are more classes than the limit. `other` is scratch.
-pub fn refine(next: &[u16], actions: usize, limit: usize, classes: &mut [u8], other: &mut [u8], firsts: &mut [usize]) -> Refined
+pub fn refine(
+    next: &[u16],
+    actions: usize,
+    limit: usize,
+    classes: &mut [u8],
+    other: &mut [u8],
+    firsts: &mut [usize],
+) -> Refined
     requires { ⌜ Refinable actions limit (now next) (now classes) (now other) (now firsts) ⌝ }
     ensures { λ r. ⌜ ((mark : ℕ) → Machine mark (length (now (classes .entry))) actions (now (next .entry)) → SplitsTo (AlikeStates mark actions (now (next .entry))) (length (now (classes .entry))) limit r (now (classes .exit)) (now (firsts .exit))) ⌝ }
 {

@@ -2,7 +2,7 @@
 ghost use mathlib.Core.Path.{_≡_};
 ghost use Prim.Native.Nat.{_+_, _*_, _≤_, _<_};
 ghost use lib.ListN.{length};
-ghost use Rattle.automaton.specs.Build.{Decides};
+ghost use Rattle.base.specs.Build.{Decides};
 ghost use Rattle.automaton.specs.Partition.{classOf, SameSignature};
 
 // An entry as an index.
@@ -16,11 +16,7 @@ pub fn index(x: u16) -> usize
 pub fn class_of(classes: &[u8], s: usize) -> u8
     ensures { λ r. ⌜ r ≡ classOf (now (classes .entry)) s ⌝ }
 {
-    if s < classes.len() {
-        classes[s]
-    } else {
-        255
-    }
+    if s < classes.len() { classes[s] } else { 255 }
 }
 
 // Whether two states have one signature. The comparison is left at the first difference.
@@ -35,7 +31,9 @@ pub fn same_signature(next: &[u16], classes: &[u8], actions: usize, s: usize, t:
     let from_t = t * actions;
     let mut a = 0;
     'actions: while a < actions {
-        if class_of(classes, index(next[from_s + a])) != class_of(classes, index(next[from_t + a])) {
+        if class_of(classes, index(next[from_s + a]))
+            != class_of(classes, index(next[from_t + a]))
+        {
             break 'actions;
         }
         a += 1;

@@ -3,18 +3,13 @@
 use mathlib.Core.Path.{_≡_, refl, sym, _∙_, subst}
 use mathlib.Core.List.{List}
 use Prim.Native.Nat.{ℕ, _+_, _*_, _-_, _≤_, _<_}
-use native.Mathlib.Nat.{le-refl, mul-le-mul}
+use native.Mathlib.Nat.{mul-le-mul}
 use native.Mathlib.Omega.{arith}
-use lib.ListN.{length, getD, take, drop, length-drop}
-use lib.Seq.{take-all}
+use lib.ListN.{length, getD, drop, length-drop}
 use Rattle.automaton.specs.Machine.{Machine}
 use Rattle.table.specs.Table.{actionsOf, rowsOf, entriesOf, EntryFits, HeaderFits, WellFormed}
 use Rattle.table.specs.Answer.{FieldsOf, FormedAs}
 use Rattle.trace.specs.declared.Mode.{Mode}
-
--- a part of a slice from its place n on
-pub tail : (n : ℕ) (bytes : List ℕ) → take (length bytes - n) (drop n bytes) ≡ drop n bytes
-tail n bytes = take-all (length bytes - n) (drop n bytes) (rw length-drop (le-refl _))
 
 module _ (bytes : List ℕ) (mode : Mode) (actions rows : ℕ) (fields : FieldsOf bytes mode actions rows) where
   pub area : rows * actions ≤ 1024

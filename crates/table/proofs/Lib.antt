@@ -1,4 +1,3 @@
-pub mod Tests
 pub mod Formed
 pub mod Scan
 pub mod Verdicts

@@ -6,12 +6,9 @@ use mathlib.Core.List.{List}
 use Prim.Native.Nat.{ℕ, _+_, _*_, _≤_, _<_}
 use lib.Dec.{eqb}
 use lib.ListN.{length, getD, drop}
+use Rattle.base.specs.Word.{wordAt}
 use Rattle.trace.specs.Trace.{Step, trips, Sequence}
 use Rattle.automaton.specs.Machine.{transition, Machine, Numbered, Distinct}
-
--- An unsigned number of 16 bits, low byte first.
-abbrev pub wordAt : List ℕ → ℕ → ℕ
-wordAt bytes at = getD bytes at 0 + 256 * getD bytes (at + 1) 0
 
 -- The header, 8 bytes: type (1 enforced, 2 watched), count of actions, count of rows, offset of the rows.
 abbrev pub typeOf : List ℕ → ℕ

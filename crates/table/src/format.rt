@@ -1,27 +1,9 @@
 // The header of a table and check 10.
 use crate::Header;
+use base::word;
 use trace::Mode;
 use crate::rows::entries_fit;
-ghost use mathlib.Core.Path.{_≡_};
-ghost use Prim.Native.Nat.{_+_, _<_};
-ghost use lib.ListN.{length};
-ghost use Rattle.table.specs.Table.{wordAt};
 ghost use Rattle.table.specs.Answer.{HeaderRead, Checked};
-
-// A byte as a number.
-pub fn byte(x: u8) -> usize
-    ensures { λ r. ⌜ (r ≡ x) × (r < 256) ⌝ }
-{
-    x as usize
-}
-
-// The 16-bit number at a place, low byte first.
-pub fn word(bytes: &[u8], at: usize) -> usize
-    requires { ⌜ at + 1 < length (now bytes) ⌝ }
-    ensures { λ r. ⌜ r ≡ wordAt (now (bytes .entry)) at ⌝ }
-{
-    byte(bytes[at]) + 256 * byte(bytes[at + 1])
-}
 
 // The header's fields, where they are in their ranges.
 pub fn header_of(bytes: &[u8]) -> Header

@@ -1,9 +1,9 @@
 // The rows of a table: their entries, their numbering, and whether two are alike.
-use crate::format::byte;
+use base::byte;
 ghost use mathlib.Core.Path.{_≡_};
 ghost use Prim.Native.Nat.{ℕ, _*_, _≤_, _<_};
 ghost use lib.ListN.{length, getD};
-ghost use Rattle.automaton.specs.Build.{Decides};
+ghost use Rattle.base.specs.Build.{Decides};
 ghost use Rattle.automaton.specs.Machine.{Numbered, Distinct};
 ghost use Rattle.table.specs.Table.{EntryFits, RowsFit};
 

@@ -2,9 +2,10 @@ use borrow.Author.Needs.{needs}
 use mathlib.Core.Path.{_≡_, sym, _∙_}
 use Prim.Native.Nat.{ℕ}
 use native.Mathlib.Omega.{arith}
+use Rattle.base.proofs.Lists.{tail}
 use Rattle.table.specs.Table.{WellFormed, HeaderFits}
 use Rattle.table.specs.Answer.{FieldsOf, FormedAs}
-use Rattle.table.proofs.Formed.{tail, area, whole-of, formed, misfit}
+use Rattle.table.proofs.Formed.{area, whole-of, formed, misfit}
 use Rattle.table.proofs.format.check.Statement.{statement}
 use Rattle.table.proofs.format.check.Tie as tie
 use Rattle.table.proofs.format.check.Reads as reads

@@ -5,10 +5,10 @@ use Prim.Native.Nat.{ℕ, _≤_, _<_, _-_}
 use native.Mathlib.Omega.{arith}
 use lib.ListN.{length, getD}
 use borrow.Author.Needs.{needs}
-use Rattle.automaton.specs.Build.{Decides}
-use Rattle.automaton.proofs.Entries.{getD-inside}
+use Rattle.base.specs.Build.{Decides}
+use Rattle.base.proofs.Lists.{getD-within}
 use Rattle.table.specs.Table.{EntryFits}
-use Rattle.table.proofs.Tests.{decides-map, every-and}
+use Rattle.base.proofs.Decide.{decides-map, every-and}
 use Rattle.table.proofs.rows.entries_fit.Statement.{statement}
 use Rattle.table.proofs.rows.entries_fit.Tie as tie
 
@@ -40,7 +40,7 @@ loop-again : tie.Need-loop-again Inv-loop μ-loop
 loop-again c =
     let entries = c .before .before .before .before .before .before .args .entries .now in
     let k = c .before .before .before .before .loop .k in
-    let read : c .before .byte .result ≡ getD entries k 255 = c .before .byte .ensures .0 ∙ getD-inside entries k 0 255 (search needs) in
+    let read : c .before .byte .result ≡ getD entries k 255 = c .before .byte .ensures .0 ∙ getD-within entries k 0 255 (search needs) in
     (search needs,
     every-and (λ j. EntryFits _ (getD entries j 255)) k (c .before .before .before .before .loop .fit) (c .entry-fits .result)
     (c .before .before .before .before .loop .inv .1)

@@ -4,11 +4,9 @@ use mathlib.Core.Path.{_≡_}
 use Prim.Native.Nat.{ℕ, _≤_, _<_}
 use native.Mathlib.Decide.{ℕ-discrete}
 use native.Mathlib.Omega.{arith}
-use lib.Dec.{eqb}
 use borrow.Author.Needs.{needs}
-use Rattle.automaton.specs.Build.{Decides}
 use Rattle.table.specs.Table.{EntryFits}
-use Rattle.table.proofs.Tests.{decides-map, decides-eqb}
+use Rattle.base.proofs.Decide.{decides-eqb}
 use Rattle.table.proofs.rows.entry_fits.Statement.{statement}
 use Rattle.table.proofs.rows.entry_fits.Tie as tie
 
@@ -22,7 +20,7 @@ returns-2 : tie.Need-returns-2
 returns-2 c =
     let e = c .before .args .e in
     let rows = c .before .args .rows in
-    decides-map (λ p n. absurd (n p)) (no-row e rows (c .if1 .left)) (eqb e 255) (decides-eqb e 255)
+    decides-eqb (EntryFits rows e) e 255 (λ p n. absurd (n p)) (λ n f. n (no-row e rows (c .if1 .left) f))
 
 pub entry-fits-spec : {M : Type 1} → statement M
 entry-fits-spec = tie.close (tie.spec returns returns-2)

@@ -6,11 +6,10 @@ use Prim.Native.Nat.{ℕ, _≤_, _<_, _*_, _-_}
 use native.Mathlib.Nat.{mul-le-mul}
 use native.Mathlib.Omega.{arith}
 use lib.Arith.{lt-of-le-ne}
-use lib.Dec.{eqb}
 use lib.ListN.{length, getD}
 use borrow.Author.Needs.{needs}
-use Rattle.automaton.proofs.Entries.{getD-inside}
-use Rattle.table.proofs.Tests.{decides-either, decides-eqb}
+use Rattle.base.proofs.Lists.{getD-within}
+use Rattle.base.proofs.Decide.{decides-eqb}
 use Rattle.table.proofs.Scan.{Scanned, scan-none, scan-known, scan-trip, scan-new, scan-skips, scan-late, scan-all, scan-some}
 use Rattle.table.proofs.rows.numbered.Statement.{statement}
 use Rattle.table.proofs.rows.numbered.Tie as tie
@@ -33,7 +32,7 @@ byte-requires c κs = search needs
 -- what is known once the entry is read
 module _ (c : tie.After-byte Inv-loop μ-loop) where
   read : c .byte .result ≡ getD (c .before .before .before .before .before .args .entries .now) (c .before .before .before .loop .k) 255
-  read = c .byte .ensures .0 ∙ getD-inside (c .before .before .before .before .before .args .entries .now) (c .before .before .before .loop .k) 0 255 (c .before .before .loop-test .taken)
+  read = c .byte .ensures .0 ∙ getD-within (c .before .before .before .before .before .args .entries .now) (c .before .before .before .loop .k) 0 255 (c .before .before .loop-test .taken)
 
   scanned : Scanned (c .before .before .before .before .before .args .rows) (c .before .before .before .before .before .args .actions) (c .before .before .before .loop .met) (c .before .before .before .loop .k) (c .before .before .before .before .before .args .entries .now)
   scanned = c .before .before .before .loop .inv .1
@@ -86,7 +85,7 @@ returns-3 c =
     let fit = c .before .before .before .pre in
     let end : c .before .loop .k ≡ length (c .before .before .before .args .entries .now) = omega arith in
     let sc = rw end at (c .before .loop .inv .1) in
-    decides-either (scan-all _ _ _ fit _ sc) (scan-some _ _ _ fit _ sc) (eqb (c .before .loop .met) (c .before .before .before .args .rows)) (decides-eqb (c .before .loop .met) (c .before .before .before .args .rows))
+    decides-eqb _ (c .before .loop .met) (c .before .before .before .args .rows) (scan-all _ _ _ fit _ sc) (scan-some _ _ _ fit _ sc)
 
 pub numbered-spec : {M : Type 1} → statement M
 numbered-spec =

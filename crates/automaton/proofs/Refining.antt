@@ -1,0 +1,72 @@
+-- What holds between the passes of a refinement, and what each pass makes of it.
+-- Assumes nothing.
+use mathlib.Core.Path.{_≡_, subst}
+use mathlib.Core.List.{List}
+use Prim.Native.Nat.{ℕ, _≤_, _<_}
+use native.Mathlib.Omega.{arith}
+use lib.ListN.{length, replicate, getD-replicate, length-replicate}
+use Rattle.automaton.specs.Machine.{Machine, AlikeStates}
+use Rattle.automaton.specs.Partition.{classOf, SameSignature, Partition, Over, SplitsTo}
+use Rattle.automaton.specs.declared.Refined.{Refined}
+use Rattle.automaton.specs.declared.Refined.the-variants.{Classes, TooMany}
+use Rattle.automaton.proofs.Compared.{signature-sym, signature-trans}
+use Rattle.automaton.proofs.Counted.{Classified, one-classified, partition-classified, no-fewer}
+use Rattle.automaton.proofs.Stable.{Sound, over-alike, pass-sound, stable-partition}
+
+-- At most `limit` classes, each of some state, and coarser than alikeness, whatever the mark is.
+pub record Refining (states actions limit count : ℕ) (next classes : List ℕ) : Type 0 where
+  pub few : count ≤ limit
+  pub paired : length classes ≡ states
+  pub classified : Classified states count classes
+  pub sound : (mark : ℕ) → Machine mark states actions next → Sound mark states actions next classes
+
+-- one class is coarser than everything
+pub one-refining : (states actions limit : ℕ) (next classes : List ℕ) → 0 < limit → 0 < states → classes ≡ replicate states 0 → Refining states actions limit 1 next classes
+one-refining states actions limit next classes h some e =
+    record {
+      few = h;
+      paired = rw e (length-replicate states 0);
+      classified = one-classified states classes some zeros;
+      sound = λ mark m. record { same = λ s t hs ht a. omega (arith, zeros s hs, zeros t ht) };
+    }
+  where
+    zeros : (s : ℕ) → s < states → classOf classes s ≡ 0
+    zeros s g = rw e (getD-replicate states s 0 255 g)
+
+module _ (states actions limit count : ℕ) (next classes : List ℕ) (r : Refining states actions limit count next classes)
+    (found : Refined) (split firsts : List ℕ) (p : SplitsTo (SameSignature actions next classes) (length classes) limit found split firsts) where
+  -- a pass that finds too many classes
+  pub too-many : found ≡ TooMany → (mark : ℕ) → Machine mark states actions next → Over (AlikeStates mark actions next) states limit
+  too-many e mark m =
+      over-alike mark states actions next classes m (r .paired) (r .sound mark m) limit
+      (rw (e, r .paired) at p)
+
+  module _ (finer : ℕ) (e : found ≡ Classes finer) where
+    split-by : (finer ≤ limit) × Partition (SameSignature actions next classes) states finer split firsts
+    split-by = rw (e, r .paired) at p
+
+    pub no-fewer-found : count ≤ finer
+    no-fewer-found =
+        no-fewer (SameSignature actions next classes) states (signature-sym actions next classes) (signature-trans actions next classes)
+        classes (λ s t d. d .class) count (r .classified) finer split firsts (split-by .1)
+
+    -- a pass that finds more classes
+    pub refines : length split ≡ states → Refining states actions limit finer next split
+    refines h =
+        record {
+          few = split-by .0;
+          paired = h;
+          classified = partition-classified (SameSignature actions next classes) states finer split firsts (split-by .1);
+          sound = λ mark m. pass-sound mark states actions next classes m (r .paired) (r .sound mark m) finer split firsts (split-by .1);
+        }
+
+    -- a pass that finds no more
+    pub stable : limit ≤ 255 → finer ≡ count → (mark : ℕ) → Machine mark states actions next → (count ≤ limit) × Partition (AlikeStates mark actions next) states count split firsts
+    stable small same mark m = (
+      r .few,
+      subst (λ (n : ℕ). Partition (AlikeStates mark actions next) states n split firsts) same
+          (stable-partition mark states actions next classes m (r .paired) (r .sound mark m) finer split firsts (split-by .1) count
+          (omega (arith, r .few))
+          (r .classified)
+          (omega arith)),
+    )

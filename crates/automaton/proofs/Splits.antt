@@ -1,0 +1,126 @@
+-- Laws of partitions of the states by a relation, and of more than `limit` states no two of which are related.
+-- Assumes nothing.
+use mathlib.Core.Path.{_≡_, refl}
+use mathlib.Core.List.{List}
+use Prim.Native.Nat.{ℕ, suc, _≤_, _<_}
+use native.Mathlib.Decide.{ℕ-discrete, decLt}
+use native.Mathlib.Omega.{arith}
+use Rattle.automaton.specs.Partition.{classOf, firstOf, Partition, Over}
+use Rattle.base.proofs.Pigeon.{pigeon}
+
+-- f with x at i
+choose : {P : Type 0} → Dec P → ℕ → ℕ → ℕ
+choose (yes p) x y = x
+choose (no q) x y = y
+
+pub update : (ℕ → ℕ) → ℕ → ℕ → ℕ → ℕ
+update f i x c = choose (ℕ-discrete c i) x (f c)
+
+pub update-same : (f : ℕ → ℕ) (i x : ℕ) → update f i x i ≡ x
+unfolding update choose
+update-same f i x = go (ℕ-discrete i i)
+  where
+    go : (d : Dec (i ≡ i)) → choose d x (f i) ≡ x
+    go (yes p) = refl
+    go (no q) = absurd (q refl)
+
+pub update-other : (f : ℕ → ℕ) (i x c : ℕ) → (c ≡ i → ⊥) → update f i x c ≡ f c
+unfolding update choose
+update-other f i x c n = go (ℕ-discrete c i)
+  where
+    go : (d : Dec (c ≡ i)) → choose d x (f c) ≡ f c
+    go (yes p) = absurd (n p)
+    go (no q) = refl
+
+module _ (R : ℕ → ℕ → Type 0) (states : ℕ) where
+  -- `limit` states, no two related, and one more that is related to none of them
+  pub over-extend : (f : ℕ → ℕ) (limit s : ℕ)
+      → ((c : ℕ) → c < limit → f c < states)
+      → s < states
+      → ((c d : ℕ) → c < d → d < limit → R (f c) (f d) → ⊥)
+      → ((c : ℕ) → c < limit → R (f c) s → ⊥)
+      → Over R states limit
+  over-extend f limit s inside new apart fresh = record { pick = update f limit s; inside = within; apart = unrelated }
+    where
+      within : (c : ℕ) → c ≤ limit → update f limit s c < states
+      within c h =
+          elim (ℕ-discrete c limit) [
+            | yes p ↦ rw (p, update-same f limit s) new
+            | no q ↦ rw (update-other f limit s c q) (inside c (omega arith))
+          ]
+
+      unrelated : (c d : ℕ) → c < d → d ≤ limit → R (update f limit s c) (update f limit s d) → ⊥
+      unrelated c d l h =
+          rw (update-other f limit s c (omega arith))
+          (elim (ℕ-discrete d limit) [
+            | yes p ↦ rw (p, update-same f limit s) (fresh c (omega arith))
+            | no q ↦ rw (update-other f limit s d q) (apart c d l (omega arith))
+          ])
+
+  module _ (symmetric : (s t : ℕ) → R s t → R t s) (transitive : (s t u : ℕ) → R s t → R t u → R s u) (count : ℕ) (classes firsts : List ℕ)
+      (p : Partition R states count classes firsts) where
+    -- states of one class are related
+    pub class-related : (s t : ℕ) → s < states → t < states → classOf classes s ≡ classOf classes t → R s t
+    class-related s t h g e =
+        transitive s (firstOf firsts (classOf classes s)) t
+        (symmetric (firstOf firsts (classOf classes s)) s (p .member s h))
+        (rw e (p .member t g))
+
+    between : (s t : ℕ) → s < states → t < states → R s t → R (firstOf firsts (classOf classes s)) (firstOf firsts (classOf classes t))
+    between s t h g r =
+        transitive (firstOf firsts (classOf classes s)) s (firstOf firsts (classOf classes t)) (p .member s h)
+        (transitive s t (firstOf firsts (classOf classes t)) r (symmetric (firstOf firsts (classOf classes t)) t (p .member t g)))
+
+    -- related states have one class
+    pub related-class : (s t : ℕ) → s < states → t < states → R s t → classOf classes s ≡ classOf classes t
+    related-class s t h g r =
+        elim (ℕ-discrete (classOf classes s) (classOf classes t)) [
+          | yes e ↦ e
+          | no q ↦ elim (decLt (classOf classes s) (classOf classes t)) [
+            | yes l ↦ absurd (p .apart (classOf classes s) (classOf classes t) l (p .below t g) (between s t h g r))
+            | no m ↦ absurd (p .apart (classOf classes t) (classOf classes s) (omega arith) (p .below s h) (between t s g h (symmetric s t r)))
+          ]
+        ]
+
+    -- no more states are pairwise not related than there are classes
+    pub over-not-partition : (limit : ℕ) → Over R states limit → count ≤ limit → ⊥
+    over-not-partition limit o h =
+        let g = pigeon (suc limit) count (λ i j. classOf classes (o .pick i) ≡ j) hit clash in
+        omega arith
+      where
+        hit : (i : ℕ) → i < suc limit → (j : ℕ) × (j < count) × (classOf classes (o .pick i) ≡ j)
+        hit i l = (classOf classes (o .pick i), p .below (o .pick i) (o .inside i (omega arith)), refl)
+
+        clash : (i k j : ℕ) → i < k → k < suc limit → j < count → classOf classes (o .pick i) ≡ j → classOf classes (o .pick k) ≡ j → ⊥
+        clash i k j l m n a b =
+            o .apart i k l (omega arith)
+            (class-related (o .pick i) (o .pick k) (o .inside i (omega arith)) (o .inside k (omega arith)) (cc))
+
+-- A relation that says the same of states has the same partitions.
+module _ (R Q : ℕ → ℕ → Type 0) (states : ℕ) (to : (s t : ℕ) → s < states → t < states → R s t → Q s t) where
+  pub over-map : (limit : ℕ) → Over Q states limit → Over R states limit
+  over-map limit o = record { pick = o .pick; inside = o .inside; apart = unrelated }
+    where
+      unrelated : (c d : ℕ) → c < d → d ≤ limit → R (o .pick c) (o .pick d) → ⊥
+      unrelated c d l h r = o .apart c d l h (to (o .pick c) (o .pick d) (o .inside c (omega arith)) (o .inside d h) r)
+
+  pub partition-map : ((s t : ℕ) → s < states → t < states → Q s t → R s t)
+      → (count : ℕ) (classes firsts : List ℕ)
+      → Partition R states count classes firsts
+      → Partition Q states count classes firsts
+  partition-map from count classes firsts p =
+      record {
+        below = p .below;
+        inside = p .inside;
+        own = p .own;
+        first = p .first;
+        ordered = p .ordered;
+        member = related;
+        apart = unrelated;
+      }
+    where
+      related : (s : ℕ) → s < states → Q (firstOf firsts (classOf classes s)) s
+      related s h = to (firstOf firsts (classOf classes s)) s (p .inside (classOf classes s) (p .below s h)) h (p .member s h)
+
+      unrelated : (c d : ℕ) → c < d → d < count → Q (firstOf firsts c) (firstOf firsts d) → ⊥
+      unrelated c d l h r = p .apart c d l h (from (firstOf firsts c) (firstOf firsts d) (p .inside c (omega arith)) (p .inside d h) r)

@@ -1,0 +1,138 @@
+-- `minimal::quotient` meets its contract. The loop's invariant: the quotient's first k entries, and then what was there.
+-- Assumes nothing.
+use mathlib.Core.Path.{_≡_, refl}
+use mathlib.Core.List.{_++_}
+use Prim.Native.Nat.{ℕ, _+_, _*_, _/_, _%_, _≤_, _<_, _-_}
+use native.Mathlib.Nat.{div-lt-iff-lt-mul, mod-lt}
+use native.Mathlib.Omega.{arith}
+use borrow.Author.Needs.{needs}
+use mir.Syntax.{w64}
+use mir.Val.{Fits}
+use lib.ListN.{length, drop, length-set}
+use Rattle.base.specs.Build.{build}
+use Rattle.automaton.specs.Partition.{firstOf}
+use Rattle.automaton.specs.Quotient.{quotientEntry}
+use Rattle.base.proofs.Lists.{build-store}
+use Rattle.automaton.proofs.minimal.quotient.Statement.{statement}
+use Rattle.automaton.proofs.minimal.quotient.Tie as tie
+
+abbrev Inv-loop : tie.InvT-loop
+Inv-loop next classes firsts actions count out₀ k₀ out k =
+    (k ≤ count * actions) × (length out ≡ length out₀) × (out ≡ build k (quotientEntry actions next classes firsts) ++ drop k out₀)
+
+abbrev μ-loop : tie.MeasureT-loop
+μ-loop next classes firsts actions count out₀ k₀ out k = count * actions - k
+
+loop-holds : tie.Need-loop-holds Inv-loop μ-loop
+loop-holds c = (omega arith, refl, refl)
+
+mul-loop : tie.Need-mul-loop Inv-loop μ-loop
+mul-loop c = omega arith
+
+div-from : tie.Need-div-from Inv-loop μ-loop
+div-from c = omega arith
+
+-- the row and the action of entry k
+module _ (c : tie.In-loop Inv-loop μ-loop) where
+  abbrev start : tie.Start Inv-loop μ-loop
+  start = c .before .before .before .before .before .before
+
+  row-below : c .before .loop .k / start .args .actions < start .args .count
+  row-below = div-lt-iff-lt-mul (start .pre .acting) .1 (c .loop-test .taken)
+
+  action-below : c .before .loop .k % start .args .actions < start .args .actions
+  action-below = mod-lt (c .before .loop .k) (start .pre .acting)
+
+  row-fits : (x : ℕ) → x < start .args .count → Fits w64 (firstOf (start .args .firsts .now) x * start .args .actions)
+  row-fits x h = omega (arith, start .pre .inside x h)
+
+  -- so far into the entries, of any class
+  module _ (x y : ℕ) (h : x < start .args .count) (g : y < start .args .actions) where
+    entry-inside : firstOf (start .args .firsts .now) x * start .args .actions + y < length (start .args .next .now)
+    entry-inside = omega (arith, start .pre .inside x h)
+
+    entry-fits : Fits w64 (firstOf (start .args .firsts .now) x * start .args .actions + y)
+    entry-fits = omega (arith, entry-inside)
+
+    entry-fits-twice : Fits w64 ((firstOf (start .args .firsts .now) x * start .args .actions + y) * 2)
+    entry-fits-twice = omega (arith, entry-inside)
+
+mul-from : tie.Need-mul-from Inv-loop μ-loop
+mul-from c = omega (arith, row-below c)
+
+shared-slice-read-from : tie.Need-shared-slice-read-from Inv-loop μ-loop
+shared-slice-read-from c = omega (arith, row-below (c .before))
+
+mul-from-2 : tie.Need-mul-from-2 Inv-loop μ-loop
+mul-from-2 c = row-fits (c .before) _ (omega (arith, row-below (c .before)))
+
+rem-index : tie.Need-rem-index Inv-loop μ-loop
+rem-index c = omega arith
+
+add-index : tie.Need-add-index Inv-loop μ-loop
+add-index c = entry-fits (c .before) _ _ (omega (arith, row-below (c .before))) (action-below (c .before))
+
+mul-index : tie.Need-mul-index Inv-loop μ-loop
+mul-index c = entry-fits-twice (c .before) _ _ (omega (arith, row-below (c .before))) (action-below (c .before))
+
+shared-slice-read-index : tie.Need-shared-slice-read-index Inv-loop μ-loop
+shared-slice-read-index c = entry-inside (c .before .before) _ _ (omega (arith, row-below (c .before .before))) (action-below (c .before .before))
+
+index-requires : tie.Need-index-requires Inv-loop μ-loop
+index-requires c κs = search needs
+
+class-of-requires : tie.Need-class-of-requires Inv-loop μ-loop
+class-of-requires c κs = search needs
+
+slice-write-out : tie.Need-slice-write-out Inv-loop μ-loop
+slice-write-out c = omega arith
+
+add-k : tie.Need-add-k Inv-loop μ-loop
+add-k c = omega arith
+
+loop-less : tie.Need-loop-less Inv-loop μ-loop
+loop-less c = omega arith
+
+loop-again : tie.Need-loop-again Inv-loop μ-loop
+loop-again c =
+    let v = c .before .before .before .before .before .loop in
+    let g = start (c .before .before .before .before) .args in
+    let f = quotientEntry (g .actions) (g .next .now) (g .classes .now) (g .firsts .now) in (
+      omega arith,
+      simp length-set (v .inv .1),
+      rw (c .class-of .ensures, c .before .index .ensures, v .inv .2) (build-store f (v .k) (g .out .now) (omega arith)),
+    )
+
+same-length : tie.Need-same-length Inv-loop μ-loop
+same-length c = omega arith
+
+returns : tie.Need-returns Inv-loop μ-loop
+returns c =
+    let z = c .before .before .before .before .before .before in
+    let e : c .before .loop .k ≡ z .args .count * z .args .actions = omega arith in
+    rw (← e) (c .before .loop .inv .2)
+
+pub quotient-spec : {M : Type 1} → statement M
+quotient-spec =
+    tie.close
+    (tie.spec
+    Inv-loop
+    μ-loop
+    loop-holds
+    mul-loop
+    div-from
+    mul-from
+    shared-slice-read-from
+    mul-from-2
+    rem-index
+    add-index
+    mul-index
+    shared-slice-read-index
+    index-requires
+    class-of-requires
+    slice-write-out
+    add-k
+    loop-less
+    loop-again
+    same-length
+    returns)

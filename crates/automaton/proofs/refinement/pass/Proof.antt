@@ -1,0 +1,137 @@
+-- `refinement::pass` meets its contract. The loop's invariant: the states below s are split by their signatures.
+-- Assumes nothing.
+use mathlib.Core.Path.{_≡_, refl}
+use mathlib.Core.Logic.{⊎-elim}
+use Prim.Native.Nat.{_≤_, _-_}
+use native.Mathlib.Nat.{lt-of-lt-of-le}
+use native.Mathlib.Omega.{arith}
+use lib.ListN.{length, length-set}
+use Rattle.automaton.specs.Partition.{SameSignature, Partition}
+use Rattle.automaton.proofs.Grown.{none-yet, joins, begins, exceeds}
+use Rattle.automaton.proofs.Compared.{signature-refl}
+use Rattle.automaton.proofs.refinement.pass.Statement.{statement}
+use Rattle.automaton.proofs.refinement.pass.Tie as tie
+
+abbrev Inv-loop : tie.InvT-loop
+Inv-loop next classes finer₀ firsts₀ actions limit count₀ s₀ finer firsts count s =
+    (s ≤ length classes)
+    × (count ≤ limit)
+    × (length finer ≡ length finer₀)
+    × (length firsts ≡ length firsts₀)
+    × Partition (SameSignature actions next classes) s count finer firsts
+
+abbrev μ-loop : tie.MeasureT-loop
+μ-loop next classes finer₀ firsts₀ actions limit count₀ s₀ finer firsts count s = length classes - s
+
+loop-holds : tie.Need-loop-holds Inv-loop μ-loop
+loop-holds c = (omega arith, omega arith, refl, refl, none-yet _ _ _)
+
+find-class-requires : tie.Need-find-class-requires Inv-loop μ-loop
+find-class-requires c κs =
+    let z = c .before .before .before .before .before .before .before in
+    let v = c .before .before .loop in
+    record {
+      sized = z .pre .sized;
+      room = omega arith;
+      inside = λ d h. lt-of-lt-of-le (v .inv .4 .inside d h) (v .inv .0);
+      state = c .before .loop-test .taken;
+    }
+
+same-length : tie.Need-same-length Inv-loop μ-loop
+same-length c = omega arith
+
+same-length-2 : tie.Need-same-length-2 Inv-loop μ-loop
+same-length-2 c = omega arith
+
+returns : tie.Need-returns Inv-loop μ-loop
+returns c =
+    let z = c .before .before .before .before .before .before .before .before .before .before in
+    let v = c .before .before .before .before .before .loop in
+    let found = c .before .before .find-class in
+    let R = SameSignature (z .args .actions) (z .args .next .now) (z .args .classes .now) in
+    rw (← c .if2 .taken)
+    (exceeds R (v .s) (v .count) (v .finer) (v .firsts) (v .inv .4) (length (z .args .classes .now)) (omega arith)
+    (λ d h. found .ensures .lowest d (rw (c .before .if1 .taken) h)))
+
+mul-firsts : tie.Need-mul-firsts Inv-loop μ-loop
+mul-firsts c = omega arith
+
+slice-write-firsts : tie.Need-slice-write-firsts Inv-loop μ-loop
+slice-write-firsts c = omega arith
+
+add-count : tie.Need-add-count Inv-loop μ-loop
+add-count c = omega arith
+
+cast-finer : tie.Need-cast-finer Inv-loop μ-loop
+cast-finer c = omega (arith, c .before .find-class .ensures .within)
+
+slice-write-finer : tie.Need-slice-write-finer Inv-loop μ-loop
+slice-write-finer c = omega arith
+
+add-s : tie.Need-add-s Inv-loop μ-loop
+add-s c = omega arith
+
+loop-less : tie.Need-loop-less Inv-loop μ-loop
+loop-less c = omega arith
+
+loop-again : tie.Need-loop-again Inv-loop μ-loop
+loop-again c =
+    let z = c .before .before .before .before .before .before .before .before .before in
+    let v = c .before .before .before .before .loop in
+    let found = c .before .find-class in
+    let R = SameSignature (z .args .actions) (z .args .next .now) (z .args .classes .now) in
+    ⊎-elim
+    (λ w. (
+      omega arith,
+      omega (arith, w .3, w .1 .left),
+      simp length-set (v .inv .2),
+      rw (w .2) (simp length-set (v .inv .3)),
+      rw (w .3, w .2, w .0 .taken)
+          (begins R (v .s) (v .count) (v .finer) (v .firsts) (v .inv .4) (omega arith) (omega arith) (signature-refl _ _ _ _)
+          (λ d h. found .ensures .lowest d (rw (w .0 .taken) h))),
+    ))
+    (λ w. (
+      omega arith,
+      omega (arith, w .2),
+      simp length-set (v .inv .2),
+      rw (w .1) (v .inv .3),
+      rw (w .2, w .1)
+          (joins R (v .s) (v .count) (v .finer) (v .firsts) (v .inv .4) (found .result) (omega arith) (omega arith) (found .ensures .here (omega arith))),
+    ))
+    (c .if1 .came)
+
+same-length-3 : tie.Need-same-length-3 Inv-loop μ-loop
+same-length-3 c = omega arith
+
+same-length-4 : tie.Need-same-length-4 Inv-loop μ-loop
+same-length-4 c = omega arith
+
+returns-2 : tie.Need-returns-2 Inv-loop μ-loop
+returns-2 c =
+    let z = c .before .before .before .before .before .before in
+    let v = c .before .loop in
+    let e : v .s ≡ length (z .args .classes .now) = omega arith in
+    (v .inv .1, rw (← e) (v .inv .4))
+
+pub pass-spec : {M : Type 1} → statement M
+pass-spec =
+    tie.close
+    (tie.spec
+    Inv-loop
+    μ-loop
+    loop-holds
+    find-class-requires
+    same-length
+    same-length-2
+    returns
+    mul-firsts
+    slice-write-firsts
+    add-count
+    cast-finer
+    slice-write-finer
+    add-s
+    loop-less
+    loop-again
+    same-length-3
+    same-length-4
+    returns-2)

@@ -1,0 +1,179 @@
+-- `refinement::refine` meets its contract. The loop's invariant: `count` classes, each of some state, and alike states have one class.
+-- The measure is what is left of the limit. Assumes nothing.
+use mathlib.Core.Path.{_≡_, refl, sym, ap, _∙_}
+use mathlib.Core.List.{List}
+use Prim.Native.Nat.{ℕ, _*_, _≤_, _-_}
+use native.Mathlib.Omega.{arith}
+use borrow.Author.Needs.{needs}
+use lib.ListN.{length, replicate}
+use Rattle.automaton.specs.Machine.{AlikeStates, Machine}
+use Rattle.automaton.specs.Partition.{Over, Partition}
+use Rattle.automaton.specs.declared.Refined.the-variants.{Classes, TooMany}
+use Rattle.automaton.proofs.Refining.{Refining, one-refining, too-many, no-fewer-found, refines, stable}
+use Rattle.automaton.proofs.refinement.refine.Statement.{statement}
+use Rattle.automaton.proofs.refinement.refine.Tie as tie
+
+abbrev Inv-loop : tie.InvT-loop
+Inv-loop next actions limit classes₀ other₀ firsts₀ count₀ classes other firsts count =
+    (length other ≡ length other₀) × (length firsts ≡ length firsts₀) × Refining (length classes₀) actions limit count next classes
+
+abbrev μ-loop : tie.MeasureT-loop
+μ-loop next actions limit classes₀ other₀ firsts₀ count₀ classes other firsts count = limit - count
+
+one-class-requires : tie.Need-one-class-requires Inv-loop μ-loop
+one-class-requires c κs = search needs
+
+loop-holds : tie.Need-loop-holds Inv-loop μ-loop
+loop-holds c =
+    let z = c .before .before .before .before .before .before .before .before in
+    let one = c .before .before .one-class in
+    let e : length (one .last .0) ≡ length (z .args .classes .now) = omega arith in (
+      refl,
+      refl,
+      one-refining (length (one .last .0)) (z .args .actions) (z .args .limit) (z .args .next .now) (one .last .0) (omega arith) (omega arith)
+          (one .ensures ∙ ap (λ (n : ℕ). replicate n 0) (sym e)),
+    )
+
+module _ (c : tie.At-loop Inv-loop μ-loop) where
+  abbrev start : tie.Start Inv-loop μ-loop
+  start = c .before .before .before .before .before .before .before .before .before
+
+  abbrev states : ℕ
+  states = length (c .before .before .before .one-class .last .0)
+
+  all-states : states ≡ length (start .args .classes .now)
+  all-states = omega arith
+
+  still-refining : Refining states (start .args .actions) (start .args .limit) (c .loop .count) (start .args .next .now) (c .loop .classes)
+  still-refining = c .loop .inv .2
+
+pass-requires : tie.Need-pass-requires Inv-loop μ-loop
+pass-requires c κs =
+    let a = c .before .before .before in
+    let z = start a in
+    record {
+      sized = z .pre .sized ∙ ap (λ (n : ℕ). n * z .args .actions) (sym (still-refining a .paired ∙ all-states a));
+      paired = omega arith;
+      some = omega arith;
+      few = omega arith;
+      positive = z .pre .positive;
+      small = z .pre .small;
+      room = omega arith;
+    }
+
+-- what the pass found
+module _ (c : tie.After-pass Inv-loop μ-loop) where
+  abbrev turn : tie.At-loop Inv-loop μ-loop
+  turn = c .before .before .before .before
+
+  abbrev split : List ℕ
+  split = c .pass .last .1 .1 .0
+
+  abbrev firsts-found : List ℕ
+  firsts-found = c .pass .last .1 .1 .1 .0
+
+  abbrev Alike : ℕ → ℕ → ℕ → Type 0
+  Alike mark = AlikeStates mark (start turn .args .actions) (start turn .args .next .now)
+
+  abbrev IsMachine : ℕ → Type 0
+  IsMachine mark = Machine mark (length (start turn .args .classes .now)) (start turn .args .actions) (start turn .args .next .now)
+
+  found-too-many : c .pass .result ≡ TooMany → (mark : ℕ) → IsMachine mark → Over (Alike mark) (length (start turn .args .classes .now)) (start turn .args .limit)
+  found-too-many e = rw (← all-states turn) (too-many _ _ _ _ _ _ (still-refining turn) (c .pass .result) split firsts-found (c .pass .ensures) e)
+
+  module _ (finer : ℕ) (e : c .pass .result ≡ Classes finer) where
+    found-no-fewer : turn .loop .count ≤ finer
+    found-no-fewer = no-fewer-found _ _ _ _ _ _ (still-refining turn) (c .pass .result) split firsts-found (c .pass .ensures) finer e
+
+    found-finer : Refining (states turn) (start turn .args .actions) (start turn .args .limit) finer (start turn .args .next .now) split
+    found-finer = refines _ _ _ _ _ _ (still-refining turn) (c .pass .result) split firsts-found (c .pass .ensures) finer e (omega arith)
+
+    found-stable : finer ≡ turn .loop .count
+        → (mark : ℕ)
+        → IsMachine mark
+        → (turn .loop .count ≤ start turn .args .limit)
+        × Partition (Alike mark) (length (start turn .args .classes .now)) (turn .loop .count) split firsts-found
+    found-stable h =
+        rw (← all-states turn)
+        (stable _ _ _ _ _ _ (still-refining turn) (c .pass .result) split firsts-found (c .pass .ensures) finer e (omega arith) h)
+
+enum-known-found : tie.Need-enum-known-found Inv-loop μ-loop
+enum-known-found c = search needs
+
+enum-told : tie.Need-enum-told Inv-loop μ-loop
+enum-told c = search needs
+
+same-length : tie.Need-same-length Inv-loop μ-loop
+same-length c = omega arith
+
+same-length-2 : tie.Need-same-length-2 Inv-loop μ-loop
+same-length-2 c = omega arith
+
+same-length-3 : tie.Need-same-length-3 Inv-loop μ-loop
+same-length-3 c = omega arith
+
+returns : tie.Need-returns Inv-loop μ-loop
+returns c = found-too-many (c .before .before .before .before .before .before) (c .enum-told .given .1)
+
+copy-classes-requires : tie.Need-copy-classes-requires Inv-loop μ-loop
+copy-classes-requires c κs = omega arith
+
+same-length-4 : tie.Need-same-length-4 Inv-loop μ-loop
+same-length-4 c = omega arith
+
+same-length-5 : tie.Need-same-length-5 Inv-loop μ-loop
+same-length-5 c = omega arith
+
+same-length-6 : tie.Need-same-length-6 Inv-loop μ-loop
+same-length-6 c = omega arith
+
+-- the finer classes, copied
+module _ (c : tie.After-slice-known7 Inv-loop μ-loop) where
+  abbrev passed : tie.After-pass Inv-loop μ-loop
+  passed = c .before .before .before .before .before .before .before .before .before .before .before .before
+
+  abbrev finer-count : ℕ
+  finer-count = c .before .before .before .before .before .before .found .given .0 .0
+
+  is-finer : passed .pass .result ≡ Classes finer-count
+  is-finer = c .before .before .before .before .before .before .found .given .1
+
+  copied : c .before .before .copy-classes .last .1 .0 ≡ split passed
+  copied = c .before .before .copy-classes .ensures
+
+returns-2 : tie.Need-returns-2 Inv-loop μ-loop
+returns-2 c = rw (copied (c .before)) (found-stable (passed (c .before)) (finer-count (c .before)) (is-finer (c .before)) (omega arith))
+
+loop-less : tie.Need-loop-less Inv-loop μ-loop
+loop-less c =
+    let p = passed (c .before) in
+    let n = finer-count (c .before) in
+    let e = is-finer (c .before) in
+    omega (arith, found-no-fewer p n e, found-finer p n e .few)
+
+loop-again : tie.Need-loop-again Inv-loop μ-loop
+loop-again c =
+    (omega arith, omega arith, rw (copied (c .before)) (found-finer (passed (c .before)) (finer-count (c .before)) (is-finer (c .before))))
+
+pub refine-spec : {M : Type 1} → statement M
+refine-spec =
+    tie.close
+    (tie.spec
+    Inv-loop
+    μ-loop
+    one-class-requires
+    loop-holds
+    pass-requires
+    enum-known-found
+    enum-told
+    same-length
+    same-length-2
+    same-length-3
+    returns
+    copy-classes-requires
+    same-length-4
+    same-length-5
+    same-length-6
+    returns-2
+    loop-less
+    loop-again)
