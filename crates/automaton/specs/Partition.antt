@@ -4,7 +4,6 @@ use mathlib.Core.Path.{_≡_}
 use mathlib.Core.List.{List}
 use Prim.Native.Nat.{ℕ, _+_, _*_, _≤_, _<_}
 use lib.ListN.{length, getD}
-use Rattle.automaton.specs.Machine.{AlikeStates}
 use Rattle.automaton.specs.declared.Refined.{Refined}
 use Rattle.automaton.specs.declared.Refined.the-variants.{Classes, TooMany}
 
@@ -61,7 +60,6 @@ pub record Refinable (actions limit : ℕ) (next classes other firsts : List ℕ
   pub sized : length next ≡ length classes * actions
   pub paired : length other ≡ length classes
   pub some : 0 < length classes
-  pub few : length classes ≤ 1024
   pub positive : 0 < limit
   pub small : limit ≤ 64
   pub room : limit ≤ length firsts

@@ -17,7 +17,7 @@ use Rattle.trace.specs.Trace.{Sequence, trips, Alike}
 use Rattle.trace.proofs.Laws.{not-both}
 use Rattle.automaton.specs.Machine.{Machine, Numbered, Distinct, transition}
 use Rattle.automaton.proofs.Canonical.{canonical, canonical-entries, fewest}
-use Rattle.table.specs.Table.{wordAt, typeOf, actionsOf, rowsOf, offsetOf, entriesOf, rowStep, HeaderFits, WellFormed, Canonical, Accepted, judged, verdict, SameVerdicts}
+use Rattle.table.specs.Table.{typeOf, actionsOf, rowsOf, offsetOf, entriesOf, rowStep, HeaderFits, WellFormed, Canonical, Accepted, judged, verdict, SameVerdicts}
 use Rattle.table.proofs.Formed.{machine}
 
 -- a type is 1 or 2

@@ -1,4 +1,5 @@
 // The rows of a table: their entries, their numbering, and whether two are alike.
+use automaton::Refined;
 use base::byte;
 ghost use mathlib.Core.Path.{_≡_};
 ghost use Prim.Native.Nat.{ℕ, _*_, _≤_, _<_};
@@ -54,4 +55,34 @@ pub fn numbered(entries: &[u8], rows: usize, actions: usize) -> bool
         k += 1;
     }
     met == rows
+}
+
+// The entries as next states.
+fn widen(entries: &[u8], next: &mut [u16])
+    requires { ⌜ length (now next) ≡ length (now entries) ⌝ }
+    ensures { λ _. ⌜ now (next .exit) ≡ now (entries .entry) ⌝ }
+{
+    let mut k = 0;
+    while k < entries.len() {
+        next[k] = entries[k] as u16;
+        k += 1;
+    }
+}
+
+// Whether no two rows are alike: every row keeps a class of its own.
+pub fn distinct(entries: &[u8], rows: usize, actions: usize) -> bool
+    requires { ⌜ RowsFit rows actions (now entries) ⌝ }
+    ensures { λ r. ⌜ Decides (Distinct 255 rows actions (now (entries .entry))) r ⌝ }
+{
+    let mut next = [0u16; 1024];
+    let mut classes = [0u8; 64];
+    let mut other = [0u8; 64];
+    let mut firsts = [0usize; 64];
+    let n = entries.len();
+    widen(entries, &mut next[..n]);
+    let found = automaton::refine(&next[..n], actions, rows, &mut classes[..rows], &mut other[..rows], &mut firsts);
+    let Refined::Classes(count) = found else {
+        return false;
+    };
+    count == rows
 }

@@ -55,7 +55,6 @@ pass-requires c κs =
       sized = z .pre .sized ∙ ap (λ (n : ℕ). n * z .args .actions) (sym (still-refining a .paired ∙ all-states a));
       paired = omega arith;
       some = omega arith;
-      few = omega arith;
       positive = z .pre .positive;
       small = z .pre .small;
       room = omega arith;
