@@ -48,8 +48,8 @@ has-suffix P [] e = (0, zero-le, e)
 has-suffix P (a ∷ w) e = pick (P (a ∷ w)) refl (has-suffix P w) e
   where
     pick : (b : Bool) → P (a ∷ w) ≡ b
-      → (someSuffix P w ≡ true → (n : ℕ) × (n ≤ length w) × (P (drop n w) ≡ true))
-      → (b || someSuffix P w) ≡ true → (n : ℕ) × (n ≤ suc (length w)) × (P (drop n (a ∷ w)) ≡ true)
+        → (someSuffix P w ≡ true → (n : ℕ) × (n ≤ length w) × (P (drop n w) ≡ true))
+        → (b || someSuffix P w) ≡ true → (n : ℕ) × (n ≤ suc (length w)) × (P (drop n (a ∷ w)) ≡ true)
     pick true p k e = (0, zero-le, p)
     pick false p k e = (suc (k e .0), suc-le-suc (k e .1), k e .2)
 
@@ -113,7 +113,7 @@ shortest [] P (suc n) e = none-some (later (P []) none n e .1)
 shortest (a ∷ w) P zero e = (zero-le, at-once (P []) (first (λ u. P (a ∷ u)) w) e, λ m h. absurd (not-suc-le-zero h))
 shortest (a ∷ w) P (suc n) e =
     longer (later (P []) (first (λ u. P (a ∷ u)) w) n e .0)
-      (shortest w (λ u. P (a ∷ u)) n (later (P []) (first (λ u. P (a ∷ u)) w) n e .1))
+    (shortest w (λ u. P (a ∷ u)) n (later (P []) (first (λ u. P (a ∷ u)) w) n e .1))
   where
     longer : P [] ≡ false → Shortest (λ u. P (a ∷ u)) w n → Shortest P (a ∷ w) (suc n)
     longer p h = (suc-le-suc (h .0), h .1, before)
@@ -128,10 +128,10 @@ is-first [] P (suc n) h = absurd (not-suc-le-zero (h .0))
 is-first (a ∷ w) P zero h = rw (h .1) refl
 is-first (a ∷ w) P (suc n) h =
     ap₂ (λ (b : Bool) (r : Option ℕ). cond b (some 0) (one-more r)) (h .2 0 (zero-lt-suc n))
-      (is-first w (λ u. P (a ∷ u)) n (le-of-suc-le-suc (h .0), h .1, λ m g. h .2 (suc m) (suc-le-suc g)))
+    (is-first w (λ u. P (a ∷ u)) n (le-of-suc-le-suc (h .0), h .1, λ m g. h .2 (suc m) (suc-le-suc g)))
 
 pub first-some : (P : Property) (w : List ℕ) (n : ℕ)
-  → first P w ≡ some n ↔ (n ≤ length w) × (P (take n w) ≡ true) × ((m : ℕ) → m < n → P (take m w) ≡ false)
+    → first P w ≡ some n ↔ (n ≤ length w) × (P (take n w) ≡ true) × ((m : ℕ) → m < n → P (take m w) ≡ false)
 first-some P w n = (shortest w P n, is-first w P n)
 
 no-prefix : (w : List ℕ) (P : Property) → first P w ≡ none → (n : ℕ) → P (take n w) ≡ false
@@ -144,7 +144,7 @@ not-first : (w : List ℕ) (P : Property) → ((n : ℕ) → n ≤ length w → 
 not-first [] P h = rw (h 0 zero-le) refl
 not-first (a ∷ w) P h =
     ap₂ (λ (b : Bool) (r : Option ℕ). cond b (some 0) (one-more r)) (h 0 zero-le)
-      (not-first w (λ u. P (a ∷ u)) (λ n g. h (suc n) (suc-le-suc g)))
+    (not-first w (λ u. P (a ∷ u)) (λ n g. h (suc n) (suc-le-suc g)))
 
 pub first-none : (P : Property) (w : List ℕ) → first P w ≡ none ↔ ((n : ℕ) → n ≤ length w → P (take n w) ≡ false)
 first-none P w = (λ e n h. no-prefix w P e n, not-first w P)
@@ -161,6 +161,6 @@ without-append hit [] w = refl
 without-append hit (a ∷ v) w = joined (hit a) (without-append hit v w)
   where
     joined : (b : Bool) → without hit (v ++ w) ≡ without hit v ++ without hit w
-      → cond b (without hit (v ++ w)) (a ∷ without hit (v ++ w)) ≡ cond b (without hit v) (a ∷ without hit v) ++ without hit w
+        → cond b (without hit (v ++ w)) (a ∷ without hit (v ++ w)) ≡ cond b (without hit v) (a ∷ without hit v) ++ without hit w
     joined true e = e
     joined false e = ap {B = List ℕ} (λ r. a ∷ r) e

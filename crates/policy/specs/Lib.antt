@@ -4,3 +4,5 @@ pub mod Policy
 pub mod Typing
 pub mod Rule
 pub mod Value
+pub mod Parts
+pub mod Lasting
