@@ -1,3 +1,6 @@
 pub mod Words
 pub mod Residual
 pub mod Lasting
+pub mod Parts
+pub mod Typing
+pub mod Rules

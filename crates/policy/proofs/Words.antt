@@ -38,6 +38,10 @@ pub not-or : (b c : Bool) → not (b || c) ≡ (not b && not c)
 not-or true c = refl
 not-or false c = refl
 
+pub not-and : (b c : Bool) → not (b && c) ≡ (not b || not c)
+not-and true c = refl
+not-and false c = refl
+
 pub not-not : (b : Bool) → not (not b) ≡ b
 not-not true = refl
 not-not false = refl

@@ -6,3 +6,4 @@ pub mod Rule
 pub mod Value
 pub mod Parts
 pub mod Lasting
+pub mod Trips
