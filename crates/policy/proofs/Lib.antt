@@ -4,3 +4,4 @@ pub mod Lasting
 pub mod Parts
 pub mod Typing
 pub mod Rules
+pub mod Congruent

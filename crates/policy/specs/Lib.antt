@@ -7,3 +7,4 @@ pub mod Value
 pub mod Parts
 pub mod Lasting
 pub mod Trips
+pub mod Agree
