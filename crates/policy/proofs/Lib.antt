@@ -5,3 +5,4 @@ pub mod Parts
 pub mod Typing
 pub mod Rules
 pub mod Congruent
+pub mod Sets
