@@ -8,3 +8,5 @@ pub mod Parts
 pub mod Lasting
 pub mod Trips
 pub mod Agree
+pub mod Closed
+pub mod Right
