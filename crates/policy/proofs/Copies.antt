@@ -19,6 +19,12 @@ use Rattle.policy.specs.Right.{Right}
 use Rattle.policy.proofs.Lasting.{part-lasting, rule-lasting}
 use Rattle.policy.proofs.Sets.{bit-empty, bit-insert, bits-below, insert-self, insert-comm}
 
+-- a copy joined to the others' answer: every row is kept
+join-answer : (m : Move ℕ) (b : Bool) (set : ℕ) → join m (answer b set) ≡ answer (tripped m || b) (insert (rowOf m) set)
+join-answer trip b set = refl
+join-answer (go r) true set = refl
+join-answer (go r) false set = refl
+
 -- joining a copy twice is joining it once, and the order is free
 join-self : (m n : Move ℕ) → join m (join m n) ≡ join m n
 join-self trip n = refl
@@ -31,11 +37,6 @@ join-comm trip (go r) n = refl
 join-comm (go q) trip n = refl
 join-comm (go q) (go r) trip = refl
 join-comm (go q) (go r) (go set) = ap go (insert-comm q r set)
-
-join-answer : (m : Move ℕ) (b : Bool) (set : ℕ) → join m (answer b set) ≡ answer (tripped m || b) (insert (rowOf m) set)
-join-answer trip b set = refl
-join-answer (go r) true set = refl
-join-answer (go r) false set = refl
 
 -- the copies of a set with one row more: that row's copy moved, joined to the others
 module _ (f : Part) (a : ℕ) where

@@ -15,6 +15,13 @@ use Rattle.policy.proofs.Residual.{up-to-later}
 use Rattle.policy.proofs.Answer.{tripsFrom, run-still}
 
 module _ (f g : Part) where
+  -- once b has tripped, so has the whole
+  tripped-run : (w : List ℕ) (m : Move ℕ)
+      → run (stepOf (until f g)) trip w
+      ≡ answer (tripsFrom g trip (upTo (first (tripsFrom f m) w) w))
+      (cond (tripsFrom f m w) released (rows (rowOf (run f m w)) (rowOf (run g trip w))))
+  tripped-run w m = rw (run-trip (stepOf (until f g)) w, run-trip g (upTo (first (tripsFrom f m) w) w)) refl
+
   until-run : (w : List ℕ) (m n : Move ℕ)
       → run (stepOf (until f g)) (untilMove m n) w
       ≡ answer (tripsFrom g n (upTo (first (tripsFrom f m) w) w))
@@ -23,7 +30,8 @@ module _ (f g : Part) where
   until-run [] trip (go r) = refl
   until-run [] (go q) trip = refl
   until-run [] (go q) (go r) = refl
-  until-run (a ∷ w) m trip = rw (run-trip (stepOf (until f g)) w, run-trip g (upTo (first (tripsFrom f m) (a ∷ w)) (a ∷ w))) refl
+  until-run (a ∷ w) trip trip = tripped-run (a ∷ w) trip
+  until-run (a ∷ w) (go q) trip = tripped-run (a ∷ w) (go q)
   until-run (a ∷ w) trip (go r) = rw (run-still (stepOf (until f g)) released (λ a. refl) w, run-trip f w) refl
   until-run (a ∷ w) (go q) (go r) = rw (up-to-later (first (tripsFrom f (f q a)) w) a w) (until-run w (f q a) (g r a))
 
