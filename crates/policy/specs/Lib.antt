@@ -4,3 +4,9 @@ pub mod Policy
 pub mod Typing
 pub mod Rule
 pub mod Value
+pub mod Parts
+pub mod Lasting
+pub mod Trips
+pub mod Agree
+pub mod Closed
+pub mod Right

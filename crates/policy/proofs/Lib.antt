@@ -1,0 +1,16 @@
+pub mod Words
+pub mod Residual
+pub mod Parts
+pub mod Lasting
+pub mod Typing
+pub mod Rules
+pub mod Congruent
+pub mod Sets
+pub mod Answer
+pub mod Simple
+pub mod Pairs
+pub mod Until
+pub mod Then
+pub mod Timed
+pub mod Copies
+pub mod Steps

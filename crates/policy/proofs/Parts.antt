@@ -1,0 +1,74 @@
+-- Laws of what holds of every part of a rule, and induction over the parts that a policy's rule has.
+-- Assumes nothing.
+use Prim.Native.Nat.{ℕ}
+use Rattle.policy.specs.Policy.{Policy, now, holds-first, count, not-p, and-p, or-p, eventually, always, before-, before+, after-, after+, fulfilling, ignoring}
+use Rattle.policy.specs.Typing.{watched, enforced, Typing, typed, untyped, typeOf}
+use Rattle.policy.specs.Rule.{Rule, opening, counting, same, both, either, copied, until, then, timed, filtered, onParts, onWatched, ruleOf}
+use Rattle.policy.specs.Parts.{AllParts, Positive}
+
+-- what follows part by part
+pub all-apply : {P X : Type 0} (Q : P → Type 0) (R : X → Type 0) (f : P → X) (rule : Rule P)
+    → AllParts (λ a. Q a → R (f a)) rule → AllParts Q rule → AllParts R (onParts f rule)
+all-apply Q R f (opening hit) h q = tt
+all-apply Q R f (counting k) h q = tt
+all-apply Q R f (same a) h q = h q
+all-apply Q R f (both a b) h q = (h .0 (q .0), h .1 (q .1))
+all-apply Q R f (either a b) h q = (h .0 (q .0), h .1 (q .1))
+all-apply Q R f (copied a) h q = h q
+all-apply Q R f (until a b) h q = (h .0 (q .0), h .1 (q .1))
+all-apply Q R f (then a b) h q = (h .0 (q .0), h .1 (q .1))
+all-apply Q R f (timed k a b c) h q = (h .0 (q .0), h .1 (q .1), h .2 (q .2))
+all-apply Q R f (filtered hit a) h q = h q
+
+-- what holds of everything holds of the parts
+pub all-parts : {P X : Type 0} (R : X → Type 0) (f : P → X) → ((a : P) → R (f a)) → (rule : Rule P) → AllParts R (onParts f rule)
+all-parts R f h (opening hit) = tt
+all-parts R f h (counting k) = tt
+all-parts R f h (same a) = h a
+all-parts R f h (both a b) = (h a, h b)
+all-parts R f h (either a b) = (h a, h b)
+all-parts R f h (copied a) = h a
+all-parts R f h (until a b) = (h a, h b)
+all-parts R f h (then a b) = (h a, h b)
+all-parts R f h (timed k a b c) = (h a, h b, h c)
+all-parts R f h (filtered hit a) = h a
+
+pub positive-on : {P X : Type 0} (f : P → X) (rule : Rule P) → Positive rule → Positive (onParts f rule)
+positive-on f (opening hit) p = p
+positive-on f (counting k) p = p
+positive-on f (same a) p = p
+positive-on f (both a b) p = p
+positive-on f (either a b) p = p
+positive-on f (copied a) p = p
+positive-on f (until a b) p = p
+positive-on f (then a b) p = p
+positive-on f (timed k a b c) p = p
+positive-on f (filtered hit a) p = p
+
+-- And, Or have the same parts either way
+on-watched : {P : Type 0} (Q : P → Type 0) (a b : P) (s : Typing) → Q a → Q b → AllParts Q (onWatched s (both a b) (either a b))
+on-watched Q a b (typed watched k) p q = (p, q)
+on-watched Q a b (typed enforced k) p q = (p, q)
+on-watched Q a b untyped p q = (p, q)
+
+on-enforced : {P : Type 0} (Q : P → Type 0) (a b : P) (s : Typing) → Q a → Q b → AllParts Q (onWatched s (either a b) (both a b))
+on-enforced Q a b (typed watched k) p q = (p, q)
+on-enforced Q a b (typed enforced k) p q = (p, q)
+on-enforced Q a b untyped p q = (p, q)
+
+-- induction over policies, by their rules
+pub policy-ind : (propositions : ℕ → ℕ) (Q : Policy → Type 0) → ((p : Policy) → AllParts Q (ruleOf propositions p) → Q p) → (p : Policy) → Q p
+policy-ind s Q h (now f) = h (now f) tt
+policy-ind s Q h (holds-first f) = h (holds-first f) tt
+policy-ind s Q h (count k) = h (count k) tt
+policy-ind s Q h (not-p a) = h (not-p a) (policy-ind s Q h a)
+policy-ind s Q h (and-p a b) = h (and-p a b) (on-watched Q a b (typeOf a) (policy-ind s Q h a) (policy-ind s Q h b))
+policy-ind s Q h (or-p a b) = h (or-p a b) (on-enforced Q a b (typeOf a) (policy-ind s Q h a) (policy-ind s Q h b))
+policy-ind s Q h (eventually a) = h (eventually a) (policy-ind s Q h a)
+policy-ind s Q h (always a) = h (always a) (policy-ind s Q h a)
+policy-ind s Q h (before- a b) = h (before- a b) (policy-ind s Q h a, policy-ind s Q h b)
+policy-ind s Q h (before+ a b) = h (before+ a b) (policy-ind s Q h a, policy-ind s Q h b)
+policy-ind s Q h (after- a b) = h (after- a b) (policy-ind s Q h a, policy-ind s Q h b)
+policy-ind s Q h (after+ a b) = h (after+ a b) (policy-ind s Q h a, policy-ind s Q h b)
+policy-ind s Q h (fulfilling k a b c) = h (fulfilling k a b c) (policy-ind s Q h a, policy-ind s Q h b, policy-ind s Q h c)
+policy-ind s Q h (ignoring f b) = h (ignoring f b) (policy-ind s Q h b)

@@ -1,0 +1,52 @@
+-- The step of every rule is right: a sequence that trips the rule trips the step, and any other leads to what is remembered of it.
+-- Assumes nothing.
+use mathlib.Core.Path.{_≡_, sym, _∙_, ap}
+use mathlib.Core.Bool.{Bool, false}
+use mathlib.Core.List.{List, [], _∷_, _++_}
+use Prim.Native.Nat.{ℕ}
+use Rattle.trace.specs.Trace.{Move, go, after, run, tripped, trips}
+use Rattle.trace.proofs.Laws.{run-append}
+use Rattle.policy.specs.Rule.{Rule, opening, counting, same, both, either, copied, until, then, timed, filtered, onParts, ruleTrips}
+use Rattle.policy.specs.Value.{Part, partTrips, Value, remembered, start, stepOf}
+use Rattle.policy.specs.Closed.{Sound, answer}
+use Rattle.policy.specs.Right.{Right}
+use Rattle.policy.proofs.Answer.{answer-tripped}
+use Rattle.policy.proofs.Simple.{opening-right, counting-right, same-right, filtered-right}
+use Rattle.policy.proofs.Pairs.{both-right, either-right}
+use Rattle.policy.proofs.Until.{until-right}
+use Rattle.policy.proofs.Then.{then-right}
+use Rattle.policy.proofs.Timed.{timed-right}
+use Rattle.policy.proofs.Copies.{copied-right}
+
+pub rule-right : (rule : Rule Part) → Sound rule → Right rule
+rule-right (opening hit) s = opening-right hit
+rule-right (counting k) s = counting-right k (s .positive)
+rule-right (same f) s = same-right f
+rule-right (both f g) s = both-right f g
+rule-right (either f g) s = either-right f g
+rule-right (copied f) s = copied-right (s .closed .0) f (s .closed .1)
+rule-right (until f g) s = until-right f g
+rule-right (then f g) s = then-right f g
+rule-right (timed k f g h) s = timed-right k f g h
+rule-right (filtered hit f) s = filtered-right hit f
+
+module _ (rule : Rule Part) (sound : Sound rule) where
+  -- reading a sequence from the start
+  pub steps-right : (w : List ℕ) → run (stepOf rule) (go (start rule)) w ≡ answer (ruleTrips (onParts partTrips rule) w) (remembered rule w)
+  steps-right = rule-right rule sound .right
+
+  pub steps-trip : (w : List ℕ) → trips (stepOf rule) (start rule) w ≡ ruleTrips (onParts partTrips rule) w
+  steps-trip w = ap tripped (steps-right w) ∙ answer-tripped (ruleTrips (onParts partTrips rule) w) (remembered rule w)
+
+  -- After a sequence that has not tripped, the next action trips the step exactly when it trips the rule, and otherwise gives the value of
+  -- the longer sequence.
+  pub step-right : (w : List ℕ) (a : ℕ) → ruleTrips (onParts partTrips rule) w ≡ false
+      → stepOf rule (remembered rule w) a
+      ≡ answer (ruleTrips (onParts partTrips rule) (w ++ (a ∷ []))) (remembered rule (w ++ (a ∷ [])))
+  step-right w a e =
+      sym (ap (λ (m : Move (Value rule)). after m (λ v. stepOf rule v a)) at-value)
+      ∙ sym (run-append (stepOf rule) (go (start rule)) w (a ∷ []))
+      ∙ steps-right (w ++ (a ∷ []))
+    where
+      at-value : run (stepOf rule) (go (start rule)) w ≡ go (remembered rule w)
+      at-value = steps-right w ∙ ap (λ (b : Bool). answer b (remembered rule w)) e

@@ -1,0 +1,41 @@
+-- Which types the parts of a policy have where the whole has one: figure 4's rules, read from the bottom up.
+-- Assumes nothing.
+use mathlib.Core.Path.{_≡_, refl}
+use mathlib.Core.Bool.{Bool, true, false, cond}
+use Prim.Native.Nat.{ℕ}
+use native.Mathlib.Omega.{arith}
+use Rattle.policy.specs.Policy.{Policy}
+use Rattle.policy.specs.Typing.{Mode, watched, enforced, Bound, Typing, typed, untyped, ifTyped, ifWatched, ifEnforced, onMode, typeOf}
+use Rattle.policy.specs.Trips.{Typed}
+
+not-typed : {A : Type 0} {m : Mode} {k : Bound} → untyped ≡ typed m k → A
+not-typed e = absurd (let z : _≡_ {A = ℕ} 0 1 = cc in omega arith)
+
+pub from-typed : (s : Typing) (f : Mode → Bound → Typing) {m : Mode} {k : Bound} → ifTyped s f ≡ typed m k
+    → (n : Mode) × (j : Bound) × (s ≡ typed n j) × (f n j ≡ typed m k)
+from-typed (typed n j) f e = (n, j, refl, e)
+from-typed untyped f e = not-typed e
+
+pub from-watched : (s : Typing) (f : Bound → Typing) {m : Mode} {k : Bound} → ifWatched s f ≡ typed m k
+    → (j : Bound) × (s ≡ typed watched j) × (f j ≡ typed m k)
+from-watched (typed watched j) f e = (j, refl, e)
+from-watched (typed enforced j) f e = not-typed e
+from-watched untyped f e = not-typed e
+
+pub from-enforced : (s : Typing) (f : Bound → Typing) {m : Mode} {k : Bound} → ifEnforced s f ≡ typed m k
+    → (j : Bound) × (s ≡ typed enforced j) × (f j ≡ typed m k)
+from-enforced (typed watched j) f e = not-typed e
+from-enforced (typed enforced j) f e = (j, refl, e)
+from-enforced untyped f e = not-typed e
+
+pub from-mode : (n : Mode) (s : Typing) (f g : Bound → Typing) {m : Mode} {k : Bound} → onMode n (ifWatched s f) (ifEnforced s g) ≡ typed m k
+    → (j : Bound) × (s ≡ typed n j)
+from-mode watched s f g e = let h = from-watched s f e in (h .0, h .1)
+from-mode enforced s f g e = let h = from-enforced s g e in (h .0, h .1)
+
+pub from-cond : (b : Bool) (s : Typing) {m : Mode} {k : Bound} → cond b s untyped ≡ typed m k → (b ≡ true) × (s ≡ typed m k)
+from-cond true s e = (refl, e)
+from-cond false s e = not-typed e
+
+pub typed-as : {p : Policy} {m : Mode} {k : Bound} → typeOf p ≡ typed m k → Typed p
+typed-as {m} {k} e = record { mode = m; bound = k; has = e }
