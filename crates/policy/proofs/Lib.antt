@@ -2,7 +2,7 @@ pub mod Words
 pub mod Residual
 pub mod Parts
 pub mod Lasting
-pub mod Typing
+pub mod Typings
 pub mod Rules
 pub mod Congruent
 pub mod Sets

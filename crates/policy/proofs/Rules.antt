@@ -18,7 +18,7 @@ use Rattle.policy.specs.Parts.{AllParts, Positive}
 use Rattle.policy.specs.Trips.{tripsPolicy, Typed}
 use Rattle.policy.specs.Lasting.{Lasting}
 use Rattle.policy.proofs.Words.{not-not, not-or, not-and, every-not-some}
-use Rattle.policy.proofs.Typing.{typed-as, from-typed, from-watched, from-enforced, from-mode, from-cond}
+use Rattle.policy.proofs.Typings.{typed-as, from-typed, from-watched, from-enforced, from-mode, from-cond}
 use Rattle.policy.proofs.Parts.{all-apply, positive-on, policy-ind}
 use Rattle.policy.proofs.Lasting.{rule-lasting}
 
