@@ -4,7 +4,7 @@ use mathlib.Core.Bool.{Bool, true, false, cond}
 use mathlib.Core.List.{List, [], _∷_, _++_}
 use Prim.Native.Nat.{ℕ, zero, suc, _-_}
 use lib.ListN.{take}
-use Rattle.sheet.specs.Sheet.{nodeCount, lengthRight, countsRight, areasRight}
+use Rattle.sheet.specs.Sheet.{actionCount, nodeCount, actionsAt, nodesAt, lengthRight, countsRight, areasRight}
 use Rattle.sheet.specs.Node.{nodeOf}
 use Rattle.sheet.specs.Types.{typeAt, typeNode}
 use Rattle.sheet.specs.declared.NodeRead.{NodeRead}
@@ -17,6 +17,8 @@ use Rattle.sheet.specs.declared.TypeFound.the-variants.{Fits, Unfit, Too
 use Rattle.sheet.specs.declared.Fault.{Fault}
 use Rattle.sheet.specs.declared.Fault.the-variants.{Length, Counts, Areas, UnknownKindAt, WrongFieldAt, WrongTypeAt, BoundAt}
 use Rattle.sheet.specs.declared.JudgedSheet.{JudgedSheet}
+use Rattle.sheet.specs.declared.Layout.{Layout}
+use Rattle.sheet.specs.declared.Layout.the-variants.{Laid, Misplaced}
 use Rattle.sheet.specs.declared.Judged.{Judged}
 use Rattle.sheet.specs.declared.Judged.the-variants.{Sound, Faulty}
 
@@ -52,7 +54,7 @@ judgeType n types TooLong = faulty (BoundAt n)
 
 -- checks 4 and 5, then 6 and 7 of node n, the nodes before it having `types`
 abbrev pub judgeNode : ℕ → List TypedNode → NodeRead → Outcome
-judgeNode n types (Read node) = judgeType n types (typeNode node types)
+judgeNode n types (Read node) = judgeType n types (typeNode node (typeAt types))
 judgeNode n types UnknownKind = faulty (UnknownKindAt n)
 judgeNode n types WrongField = faulty (WrongFieldAt n)
 
@@ -71,15 +73,23 @@ abbrev pub judgeLast : ℕ → List TypedNode → NodeType → Outcome
 judgeLast n types Formula = faulty (WrongTypeAt n)
 judgeLast n types (Policy m k) = sound types
 
-abbrev pub judge : List ℕ → Outcome
-judge bytes =
+-- Checks 1 to 3: where the areas are, or the first fault.
+abbrev pub layoutOf : List ℕ → Layout
+layoutOf bytes =
     cond (lengthRight bytes)
     (cond (countsRight bytes)
-    (cond (areasRight bytes)
-    (unlessFaulty (judgeNodes bytes (nodeCount bytes)) (λ types. judgeLast (nodeCount bytes - 1) types (typeAt types (nodeCount bytes - 1))))
-    (faulty Areas))
-    (faulty Counts))
-    (faulty Length)
+    (cond (areasRight bytes) (Laid (actionCount bytes) (nodeCount bytes) (actionsAt bytes) (nodesAt bytes)) (Misplaced Areas))
+    (Misplaced Counts))
+    (Misplaced Length)
+
+-- Then the nodes, one by one, and the last one.
+abbrev pub judgeLaid : List ℕ → Layout → Outcome
+judgeLaid bytes (Laid actions nodes actionsFrom nodesFrom) =
+    unlessFaulty (judgeNodes bytes nodes) (λ types. judgeLast (nodes - 1) types (typeAt types (nodes - 1)))
+judgeLaid bytes (Misplaced f) = faulty f
+
+abbrev pub judge : List ℕ → Outcome
+judge bytes = judgeLaid bytes (layoutOf bytes)
 
 -- What a judged sheet says: its fault, or the types of its first nodes.
 abbrev pub outcomeBy : Judged → List TypedNode → Outcome

@@ -37,25 +37,26 @@ abbrev pub found : Typing → TypeFound
 found (typed m k) = cond (boundFits k) (Fits (Policy m k)) TooLong
 found untyped = Unfit
 
-abbrev pub typeNode : Node → List TypedNode → TypeFound
+-- `types i` is the type of node i.
+abbrev pub typeNode : Node → (ℕ → NodeType) → TypeFound
 typeNode True types = Fits Formula
 typeNode False types = Fits Formula
 typeNode (Proposition p) types = Fits Formula
-typeNode (Negation a) types = ifFormula (typeAt types a) (Fits Formula)
-typeNode (Conjunction a b) types = ifFormula (typeAt types a) (ifFormula (typeAt types b) (Fits Formula))
-typeNode (Disjunction a b) types = ifFormula (typeAt types a) (ifFormula (typeAt types b) (Fits Formula))
-typeNode (Now a) types = ifFormula (typeAt types a) (found typeNow)
-typeNode (Holds a) types = ifFormula (typeAt types a) (found typeHolds)
+typeNode (Negation a) types = ifFormula (types a) (Fits Formula)
+typeNode (Conjunction a b) types = ifFormula (types a) (ifFormula (types b) (Fits Formula))
+typeNode (Disjunction a b) types = ifFormula (types a) (ifFormula (types b) (Fits Formula))
+typeNode (Now a) types = ifFormula (types a) (found typeNow)
+typeNode (Holds a) types = ifFormula (types a) (found typeHolds)
 typeNode (Count k) types = found (typeCount k)
-typeNode (Not a) types = found (typeNot (typingOf (typeAt types a)))
-typeNode (And a b) types = found (alikeTyped (typingOf (typeAt types a)) (typingOf (typeAt types b)))
-typeNode (Or a b) types = found (alikeTyped (typingOf (typeAt types a)) (typingOf (typeAt types b)))
-typeNode (Eventually a) types = found (typeEventually (typingOf (typeAt types a)))
-typeNode (Always a) types = found (typeAlways (typingOf (typeAt types a)))
-typeNode (BeforeMinus a b) types = found (typeBefore- (typingOf (typeAt types a)) (typingOf (typeAt types b)))
-typeNode (BeforePlus a b) types = found (typeBefore+ (typingOf (typeAt types a)) (typingOf (typeAt types b)))
-typeNode (AfterMinus a b) types = found (typeAfter- (typingOf (typeAt types a)) (typingOf (typeAt types b)))
-typeNode (AfterPlus a b) types = found (typeAfter+ (typingOf (typeAt types a)) (typingOf (typeAt types b)))
+typeNode (Not a) types = found (typeNot (typingOf (types a)))
+typeNode (And a b) types = found (alikeTyped (typingOf (types a)) (typingOf (types b)))
+typeNode (Or a b) types = found (alikeTyped (typingOf (types a)) (typingOf (types b)))
+typeNode (Eventually a) types = found (typeEventually (typingOf (types a)))
+typeNode (Always a) types = found (typeAlways (typingOf (types a)))
+typeNode (BeforeMinus a b) types = found (typeBefore- (typingOf (types a)) (typingOf (types b)))
+typeNode (BeforePlus a b) types = found (typeBefore+ (typingOf (types a)) (typingOf (types b)))
+typeNode (AfterMinus a b) types = found (typeAfter- (typingOf (types a)) (typingOf (types b)))
+typeNode (AfterPlus a b) types = found (typeAfter+ (typingOf (types a)) (typingOf (types b)))
 typeNode (Fulfilling k a b c) types =
-    found (typeFulfilling k (typingOf (typeAt types a)) (typingOf (typeAt types b)) (typingOf (typeAt types c)))
-typeNode (Ignoring a b) types = ifFormula (typeAt types a) (found (typeIgnoring (typingOf (typeAt types b))))
+    found (typeFulfilling k (typingOf (types a)) (typingOf (types b)) (typingOf (types c)))
+typeNode (Ignoring a b) types = ifFormula (types a) (found (typeIgnoring (typingOf (types b))))

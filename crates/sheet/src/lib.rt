@@ -1,6 +1,14 @@
 // Rule sheets: the serialised syntax tree of a policy, and checks 1 to 7.
 use policy::Bound;
 use trace::Mode;
+mod layouts;
+mod nodes;
+mod types;
+mod checks;
+pub use checks::judge;
+pub use layouts::layout;
+pub use nodes::read_node;
+pub use types::type_at;
 
 // A node: an action formula (kinds 1 to 6) or a policy (kinds 10 to 23), over the numbers of its parts.
 pub enum Node {
@@ -60,6 +68,17 @@ pub enum Fault {
     WrongFieldAt(usize),
     WrongTypeAt(usize),
     BoundAt(usize),
+}
+
+// Where a sheet's areas are, or the first fault of checks 1 to 3.
+pub enum Layout {
+    Laid {
+        actions: usize,
+        nodes: usize,
+        actions_at: usize,
+        nodes_at: usize,
+    },
+    Misplaced(Fault),
 }
 
 // What the checks find: the number of nodes of a sound sheet, or the first fault.

@@ -1,0 +1,153 @@
+// Reading a node: checks 4 and 5.
+use crate::Node;
+use crate::NodeRead;
+use base::byte;
+ghost use mathlib.Core.Path.{_≡_};
+ghost use Prim.Native.Nat.{_+_, _<_};
+ghost use lib.ListN.{length, getD};
+ghost use Rattle.sheet.specs.Node.{noPart, argumentOnly, onePart, twoParts, threeParts, readFields};
+
+// A node whose fields are all unused.
+fn no_part(argument: usize, a: usize, b: usize, c: usize, node: Node) -> NodeRead
+    ensures { λ r. ⌜ r ≡ noPart argument a b c node ⌝ }
+{
+    if argument != 0 {
+        return NodeRead::WrongField;
+    }
+    if a != 0 {
+        return NodeRead::WrongField;
+    }
+    if b != 0 {
+        return NodeRead::WrongField;
+    }
+    if c != 0 {
+        return NodeRead::WrongField;
+    }
+    NodeRead::Read(node)
+}
+
+// A node with an argument from low to high and no part.
+fn argument_only(low: usize, high: usize, argument: usize, a: usize, b: usize, c: usize, node: Node) -> NodeRead
+    ensures { λ r. ⌜ r ≡ argumentOnly low high argument a b c node ⌝ }
+{
+    if argument < low {
+        return NodeRead::WrongField;
+    }
+    if high < argument {
+        return NodeRead::WrongField;
+    }
+    if a != 0 {
+        return NodeRead::WrongField;
+    }
+    if b != 0 {
+        return NodeRead::WrongField;
+    }
+    if c != 0 {
+        return NodeRead::WrongField;
+    }
+    NodeRead::Read(node)
+}
+
+// A node with one part, lower than its own number n.
+fn one_part(n: usize, argument: usize, a: usize, b: usize, c: usize, node: Node) -> NodeRead
+    ensures { λ r. ⌜ r ≡ onePart n argument a b c node ⌝ }
+{
+    if argument != 0 {
+        return NodeRead::WrongField;
+    }
+    if n <= a {
+        return NodeRead::WrongField;
+    }
+    if b != 0 {
+        return NodeRead::WrongField;
+    }
+    if c != 0 {
+        return NodeRead::WrongField;
+    }
+    NodeRead::Read(node)
+}
+
+// A node with two parts.
+fn two_parts(n: usize, argument: usize, a: usize, b: usize, c: usize, node: Node) -> NodeRead
+    ensures { λ r. ⌜ r ≡ twoParts n argument a b c node ⌝ }
+{
+    if argument != 0 {
+        return NodeRead::WrongField;
+    }
+    if n <= a {
+        return NodeRead::WrongField;
+    }
+    if n <= b {
+        return NodeRead::WrongField;
+    }
+    if c != 0 {
+        return NodeRead::WrongField;
+    }
+    NodeRead::Read(node)
+}
+
+// A node with three parts and an argument from 1 to 60.
+fn three_parts(n: usize, argument: usize, a: usize, b: usize, c: usize, node: Node) -> NodeRead
+    ensures { λ r. ⌜ r ≡ threeParts n argument a b c node ⌝ }
+{
+    if argument < 1 {
+        return NodeRead::WrongField;
+    }
+    if 60 < argument {
+        return NodeRead::WrongField;
+    }
+    if n <= a {
+        return NodeRead::WrongField;
+    }
+    if n <= b {
+        return NodeRead::WrongField;
+    }
+    if n <= c {
+        return NodeRead::WrongField;
+    }
+    NodeRead::Read(node)
+}
+
+// Node n, from its five fields: the kind, the argument, the parts.
+fn read_fields(n: usize, kind: usize, argument: usize, a: usize, b: usize, c: usize) -> NodeRead
+    ensures { λ r. ⌜ r ≡ readFields n kind argument a b c ⌝ }
+{
+    match kind {
+        1 => no_part(argument, a, b, c, Node::True),
+        2 => no_part(argument, a, b, c, Node::False),
+        3 => argument_only(0, 15, argument, a, b, c, Node::Proposition(argument)),
+        4 => one_part(n, argument, a, b, c, Node::Negation(a)),
+        5 => two_parts(n, argument, a, b, c, Node::Conjunction(a, b)),
+        6 => two_parts(n, argument, a, b, c, Node::Disjunction(a, b)),
+        10 => one_part(n, argument, a, b, c, Node::Now(a)),
+        11 => one_part(n, argument, a, b, c, Node::Holds(a)),
+        12 => argument_only(1, 60, argument, a, b, c, Node::Count(argument)),
+        13 => one_part(n, argument, a, b, c, Node::Not(a)),
+        14 => two_parts(n, argument, a, b, c, Node::And(a, b)),
+        15 => two_parts(n, argument, a, b, c, Node::Or(a, b)),
+        16 => one_part(n, argument, a, b, c, Node::Eventually(a)),
+        17 => one_part(n, argument, a, b, c, Node::Always(a)),
+        18 => two_parts(n, argument, a, b, c, Node::BeforeMinus(a, b)),
+        19 => two_parts(n, argument, a, b, c, Node::BeforePlus(a, b)),
+        20 => two_parts(n, argument, a, b, c, Node::AfterMinus(a, b)),
+        21 => two_parts(n, argument, a, b, c, Node::AfterPlus(a, b)),
+        22 => three_parts(n, argument, a, b, c, Node::Fulfilling(argument, a, b, c)),
+        23 => two_parts(n, argument, a, b, c, Node::Ignoring(a, b)),
+        _ => NodeRead::UnknownKind,
+    }
+}
+
+// Node n of a sheet, whose fields start at `at`: checks 4 and 5.
+pub fn read_node(bytes: &[u8], at: usize, n: usize) -> NodeRead
+    requires { ⌜ at + 4 < length (now bytes) ⌝ }
+    ensures { λ r. ⌜ r ≡ readFields n (getD (now (bytes .entry)) at 0) (getD (now (bytes .entry)) (at + 1) 0) (getD (now (bytes .entry)) (at + 2) 0) (getD (now (bytes .entry)) (at + 3) 0) (getD (now (bytes .entry)) (at + 4) 0) ⌝ }
+{
+    read_fields(
+        n,
+        byte(bytes[at]),
+        byte(bytes[at + 1]),
+        byte(bytes[at + 2]),
+        byte(bytes[at + 3]),
+        byte(bytes[at + 4]),
+    )
+}
