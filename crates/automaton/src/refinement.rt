@@ -1,9 +1,11 @@
 // Partition refinement, pass by pass, until a pass finds no class more.
 use crate::Refined;
 use crate::signature::same_signature;
+use base::clear;
+use base::copy;
 ghost use mathlib.Core.Path.{_≡_};
 ghost use Prim.Native.Nat.{ℕ, _+_, _*_, _≤_, _<_};
-ghost use lib.ListN.{length, replicate};
+ghost use lib.ListN.{length};
 ghost use Rattle.automaton.specs.Machine.{Machine, AlikeStates};
 ghost use Rattle.automaton.specs.Partition.{SameSignature, SplitsTo, ClassFound, Searchable, Refinable};
 
@@ -58,29 +60,6 @@ fn pass(
     Refined::Classes(count)
 }
 
-// Every state into class 0.
-fn one_class(classes: &mut [u8])
-    ensures { λ _. ⌜ now (classes .exit) ≡ replicate (length (now (classes .entry))) 0 ⌝ }
-{
-    let mut s = 0;
-    while s < classes.len() {
-        classes[s] = 0;
-        s += 1;
-    }
-}
-
-// The classes of `from` into `to`.
-fn copy_classes(from: &[u8], to: &mut [u8])
-    requires { ⌜ length (now to) ≡ length (now from) ⌝ }
-    ensures { λ _. ⌜ now (to .exit) ≡ now (from .entry) ⌝ }
-{
-    let mut s = 0;
-    while s < from.len() {
-        to[s] = from[s];
-        s += 1;
-    }
-}
-
 // The classes of alike states, with their first members, or that there are more classes than the limit. `other` is scratch.
 pub fn refine(
     next: &[u16],
@@ -93,14 +72,14 @@ pub fn refine(
     requires { ⌜ Refinable actions limit (now next) (now classes) (now other) (now firsts) ⌝ }
     ensures { λ r. ⌜ ((mark : ℕ) → Machine mark (length (now (classes .entry))) actions (now (next .entry)) → SplitsTo (AlikeStates mark actions (now (next .entry))) (length (now (classes .entry))) limit r (now (classes .exit)) (now (firsts .exit))) ⌝ }
 {
-    one_class(classes);
+    clear(classes);
     let mut count = 1;
     loop {
         let found = pass(next, classes, other, firsts, actions, limit);
         let Refined::Classes(finer) = found else {
             return Refined::TooMany;
         };
-        copy_classes(other, classes);
+        copy(other, classes);
         if finer == count {
             return Refined::Classes(count);
         }

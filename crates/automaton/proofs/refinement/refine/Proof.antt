@@ -10,6 +10,7 @@ use Rattle.automaton.specs.Machine.{AlikeStates, Machine}
 use Rattle.automaton.specs.Partition.{Over, Partition}
 use Rattle.automaton.specs.declared.Refined.the-variants.{Classes, TooMany}
 use Rattle.automaton.proofs.Refining.{Refining, one-refining, too-many, no-fewer-found, refines, stable}
+use Rattle.base.proofs.Lists.{stored-all}
 use Rattle.automaton.proofs.refinement.refine.Statement.{statement}
 use Rattle.automaton.proofs.refinement.refine.Tie as tie
 
@@ -20,13 +21,13 @@ Inv-loop next actions limit classes₀ other₀ firsts₀ count₀ classes other
 abbrev μ-loop : tie.MeasureT-loop
 μ-loop next actions limit classes₀ other₀ firsts₀ count₀ classes other firsts count = limit - count
 
-one-class-requires : tie.Need-one-class-requires Inv-loop μ-loop
-one-class-requires c κs = search needs
+clear-requires : tie.Need-clear-requires Inv-loop μ-loop
+clear-requires c κs = search needs
 
 loop-holds : tie.Need-loop-holds Inv-loop μ-loop
 loop-holds c =
     let z = c .before .before .before .before .before .before .before .before in
-    let one = c .before .before .one-class in
+    let one = c .before .before .clear in
     let e : length (one .last .0) ≡ length (z .args .classes .now) = omega arith in (
       refl,
       refl,
@@ -39,7 +40,7 @@ module _ (c : tie.At-loop Inv-loop μ-loop) where
   start = c .before .before .before .before .before .before .before .before .before
 
   abbrev states : ℕ
-  states = length (c .before .before .before .one-class .last .0)
+  states = length (c .before .before .before .clear .last .0)
 
   all-states : states ≡ length (start .args .classes .now)
   all-states = omega arith
@@ -114,8 +115,8 @@ same-length-3 c = omega arith
 returns : tie.Need-returns Inv-loop μ-loop
 returns c = found-too-many (c .before .before .before .before .before .before) (c .enum-told .given .1)
 
-copy-classes-requires : tie.Need-copy-classes-requires Inv-loop μ-loop
-copy-classes-requires c κs = omega arith
+copy-requires : tie.Need-copy-requires Inv-loop μ-loop
+copy-requires c κs = omega arith
 
 same-length-4 : tie.Need-same-length-4 Inv-loop μ-loop
 same-length-4 c = omega arith
@@ -137,8 +138,10 @@ module _ (c : tie.After-slice-known7 Inv-loop μ-loop) where
   is-finer : passed .pass .result ≡ Classes finer-count
   is-finer = c .before .before .before .before .before .before .found .given .1
 
-  copied : c .before .before .copy-classes .last .1 .0 ≡ split passed
-  copied = c .before .before .copy-classes .ensures
+  copied : c .before .before .copy .last .1 .0 ≡ split passed
+  copied =
+      c .before .before .copy .ensures
+      ∙ stored-all (split passed) (turn passed .loop .classes) (length (split passed)) (omega (arith, passed .pass .kept, turn passed .loop .inv))
 
 returns-2 : tie.Need-returns-2 Inv-loop μ-loop
 returns-2 c = rw (copied (c .before)) (found-stable (passed (c .before)) (finer-count (c .before)) (is-finer (c .before)) (omega arith))
@@ -160,7 +163,7 @@ refine-spec =
     (tie.spec
     Inv-loop
     μ-loop
-    one-class-requires
+    clear-requires
     loop-holds
     pass-requires
     enum-known-found
@@ -169,7 +172,7 @@ refine-spec =
     same-length-2
     same-length-3
     returns
-    copy-classes-requires
+    copy-requires
     same-length-4
     same-length-5
     same-length-6
