@@ -1,11 +1,13 @@
 -- Laws of partitions of the states by a relation, and of more than `limit` states no two of which are related.
 -- Assumes nothing.
-use mathlib.Core.Path.{_≡_, refl}
+use mathlib.Core.Path.{_≡_, refl, subst}
 use mathlib.Core.List.{List}
 use Prim.Native.Nat.{ℕ, suc, _≤_, _<_}
 use native.Mathlib.Decide.{ℕ-discrete, decLt}
 use native.Mathlib.Omega.{arith}
-use Rattle.automaton.specs.Partition.{classOf, firstOf, Partition, Over}
+use Rattle.automaton.specs.Partition.{classOf, firstOf, Partition, Over, SplitsTo}
+use Rattle.automaton.specs.declared.Refined.{Refined}
+use Rattle.automaton.specs.declared.Refined.the-variants.{Classes, TooMany}
 use Rattle.base.proofs.Pigeon.{pigeon}
 
 -- f with x at i
@@ -124,3 +126,11 @@ module _ (R Q : ℕ → ℕ → Type 0) (states : ℕ) (to : (s t : ℕ) → s <
 
       unrelated : (c d : ℕ) → c < d → d < count → Q (firstOf firsts c) (firstOf firsts d) → ⊥
       unrelated c d l h r = p .apart c d l h (from (firstOf firsts c) (firstOf firsts d) (p .inside c (omega arith)) (p .inside d h) r)
+
+-- What a split that answered so says.
+module _ (R : ℕ → ℕ → Type 0) (states limit : ℕ) (classes firsts : List ℕ) where
+  pub split-over : (r : Refined) → r ≡ TooMany → SplitsTo R states limit r classes firsts → Over R states limit
+  split-over r e s = subst (λ (x : Refined). SplitsTo R states limit x classes firsts) e s
+
+  pub split-classes : (r : Refined) (count : ℕ) → r ≡ Classes count → SplitsTo R states limit r classes firsts → (count ≤ limit) × Partition R states count classes firsts
+  split-classes r count e s = subst (λ (x : Refined). SplitsTo R states limit x classes firsts) e s

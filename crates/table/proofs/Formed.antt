@@ -7,8 +7,8 @@ use native.Mathlib.Nat.{mul-le-mul}
 use native.Mathlib.Omega.{arith}
 use lib.ListN.{length, getD, drop, length-drop}
 use Rattle.automaton.specs.Machine.{Machine}
-use Rattle.table.specs.Table.{actionsOf, rowsOf, entriesOf, EntryFits, HeaderFits, WellFormed}
-use Rattle.table.specs.Answer.{FieldsOf, FormedAs}
+use Rattle.table.specs.Table.{actionsOf, rowsOf, entriesOf, EntryFits, HeaderFits, WellFormed, RowsFit, CanonicalRows, Canonical}
+use Rattle.table.specs.Answer.{modeNumber, accepted, refused, Loads, accepts, not-canonical, FieldsOf, FormedAs}
 use Rattle.trace.specs.declared.Mode.{Mode}
 
 module _ (bytes : List ℕ) (mode : Mode) (actions rows : ℕ) (fields : FieldsOf bytes mode actions rows) where
@@ -37,3 +37,26 @@ module _ (bytes : List ℕ) (mode : Mode) (actions rows : ℕ) (fields : FieldsO
 pub machine : (bytes : List ℕ) → WellFormed bytes → Machine 255 (rowsOf bytes) (actionsOf bytes) (entriesOf bytes)
 machine bytes h =
     record { sized = length-drop 8 bytes ∙ (omega (arith, h .whole)); marked = omega (arith, h .header); closed = h .entries }
+
+-- a table that passes 10, with its fields as read
+module _ (bytes : List ℕ) (mode : Mode) (actions rows : ℕ) (f : FormedAs bytes mode actions rows) where
+  pub rows-fit : RowsFit rows actions (drop 8 bytes)
+  rows-fit =
+      rw (← f .fields .rowed, ← f .fields .acting)
+      (record {
+        machine = machine bytes (f .formed);
+        rows-low = f .formed .header .rows-low;
+        rows-high = f .formed .header .rows-high;
+        actions-low = f .formed .header .actions-low;
+        actions-high = f .formed .header .actions-high;
+      })
+
+  canonical : CanonicalRows rows actions (drop 8 bytes) → Canonical bytes
+  canonical c = rw (f .fields .rowed, f .fields .acting) c
+
+  pub loads-accepted : CanonicalRows rows actions (drop 8 bytes) → Loads bytes (accepted (modeNumber mode) actions rows)
+  loads-accepted c =
+      rw (← f .fields .type, ← f .fields .acting, ← f .fields .rowed) (accepts (record { formed = f .formed; canonical = canonical c }))
+
+  pub loads-refused : (CanonicalRows rows actions (drop 8 bytes) → ⊥) → Loads bytes (refused 11 0)
+  loads-refused n = not-canonical (f .formed) (λ c. n (rw (f .fields .rowed, f .fields .acting) at c))

@@ -1,3 +1,4 @@
 pub mod Formed
 pub mod Scan
 pub mod Verdicts
+pub mod Apart

@@ -60,10 +60,14 @@ pub record RowsFit (rows actions : ℕ) (entries : List ℕ) : Type 0 where
   pub actions-low : 1 ≤ actions
   pub actions-high : actions ≤ 16
 
--- Check 11 passes: the rows are in the stated numbering, all met, and no two are alike.
-pub record Canonical (bytes : List ℕ) : Type 0 where
-  pub numbered : Numbered 255 (rowsOf bytes) (actionsOf bytes) (entriesOf bytes)
-  pub distinct : Distinct 255 (rowsOf bytes) (actionsOf bytes) (entriesOf bytes)
+-- Rows in the stated numbering, all met, and no two alike.
+pub record CanonicalRows (rows actions : ℕ) (entries : List ℕ) : Type 0 where
+  pub numbered : Numbered 255 rows actions entries
+  pub distinct : Distinct 255 rows actions entries
+
+-- Check 11 passes.
+abbrev pub Canonical : List ℕ → Type 0
+Canonical bytes = CanonicalRows (rowsOf bytes) (actionsOf bytes) (entriesOf bytes)
 
 -- An accepted table passes 10 and 11.
 pub record Accepted (bytes : List ℕ) : Type 0 where

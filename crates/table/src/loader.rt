@@ -2,8 +2,7 @@
 use crate::Header;
 use crate::Loaded;
 use crate::format::check;
-use crate::rows::distinct;
-use crate::rows::numbered;
+use crate::rows::canonical;
 ghost use Rattle.table.specs.Answer.{Loads, answerOf};
 
 // Loads any bytes: an accepted table with its type, actions and rows, or refusal 10 or 11.
@@ -13,11 +12,9 @@ pub fn load(bytes: &[u8]) -> Loaded
     let Header::Fields { mode, actions, rows } = check(bytes) else {
         return Loaded::Malformed;
     };
-    if !numbered(&bytes[8..], rows, actions) {
-        return Loaded::NotCanonical;
+    if canonical(&bytes[8..], rows, actions) {
+        Loaded::Table { mode, actions, rows }
+    } else {
+        Loaded::NotCanonical
     }
-    if !distinct(&bytes[8..], rows, actions) {
-        return Loaded::NotCanonical;
-    }
-    Loaded::Table { mode, actions, rows }
 }

@@ -6,7 +6,7 @@ ghost use Prim.Native.Nat.{ℕ, _*_, _≤_, _<_};
 ghost use lib.ListN.{length, getD};
 ghost use Rattle.base.specs.Build.{Decides};
 ghost use Rattle.automaton.specs.Machine.{Numbered, Distinct};
-ghost use Rattle.table.specs.Table.{EntryFits, RowsFit};
+ghost use Rattle.table.specs.Table.{EntryFits, RowsFit, CanonicalRows};
 
 // Whether an entry is below the count of rows, or 255.
 fn entry_fits(e: usize, rows: usize) -> bool
@@ -33,7 +33,7 @@ pub fn entries_fit(entries: &[u8], rows: usize) -> bool
 }
 
 // Whether the rows are in the stated numbering, each met, and met before it is read.
-pub fn numbered(entries: &[u8], rows: usize, actions: usize) -> bool
+fn numbered(entries: &[u8], rows: usize, actions: usize) -> bool
     requires { ⌜ RowsFit rows actions (now entries) ⌝ }
     ensures { λ r. ⌜ Decides (Numbered 255 rows actions (now (entries .entry))) r ⌝ }
 {
@@ -69,15 +69,34 @@ fn widen(entries: &[u8], next: &mut [u16])
     }
 }
 
+// Room for the entries of a table, and for a number a row. Only the lengths are known of them.
+fn room_for_entries() -> [u16; 1024]
+    ensures { λ r. ⌜ length r ≡ 1024 ⌝ }
+{
+    [0u16; 1024]
+}
+
+fn room_for_classes() -> [u8; 64]
+    ensures { λ r. ⌜ length r ≡ 64 ⌝ }
+{
+    [0u8; 64]
+}
+
+fn room_for_firsts() -> [usize; 64]
+    ensures { λ r. ⌜ length r ≡ 64 ⌝ }
+{
+    [0usize; 64]
+}
+
 // Whether no two rows are alike: every row keeps a class of its own.
-pub fn distinct(entries: &[u8], rows: usize, actions: usize) -> bool
+fn distinct(entries: &[u8], rows: usize, actions: usize) -> bool
     requires { ⌜ RowsFit rows actions (now entries) ⌝ }
     ensures { λ r. ⌜ Decides (Distinct 255 rows actions (now (entries .entry))) r ⌝ }
 {
-    let mut next = [0u16; 1024];
-    let mut classes = [0u8; 64];
-    let mut other = [0u8; 64];
-    let mut firsts = [0usize; 64];
+    let mut next = room_for_entries();
+    let mut classes = room_for_classes();
+    let mut other = room_for_classes();
+    let mut firsts = room_for_firsts();
     let n = entries.len();
     widen(entries, &mut next[..n]);
     let found = automaton::refine(&next[..n], actions, rows, &mut classes[..rows], &mut other[..rows], &mut firsts);
@@ -85,4 +104,16 @@ pub fn distinct(entries: &[u8], rows: usize, actions: usize) -> bool
         return false;
     };
     count == rows
+}
+
+// Check 11: whether the rows are in the stated numbering and no two are alike.
+pub fn canonical(entries: &[u8], rows: usize, actions: usize) -> bool
+    requires { ⌜ RowsFit rows actions (now entries) ⌝ }
+    ensures { λ r. ⌜ Decides (CanonicalRows rows actions (now (entries .entry))) r ⌝ }
+{
+    if numbered(entries, rows, actions) {
+        distinct(entries, rows, actions)
+    } else {
+        false
+    }
 }

@@ -1,53 +1,60 @@
+-- `table::rows::widen` meets its contract. The loop's invariant: `next` has the entries below k, and then what was there.
+-- Assumes nothing.
+use mathlib.Core.Path.{_≡_, refl, _∙_}
+use mathlib.Core.List.{_++_}
+use Prim.Native.Nat.{ℕ, _≤_, _-_}
+use native.Mathlib.Omega.{arith}
+use borrow.Author.Needs.{needs}
+use lib.ListN.{length, getD, drop, length-set}
+use Rattle.base.specs.Build.{build}
+use Rattle.base.proofs.Lists.{build-store, stored-all, build-getD}
 use Rattle.table.proofs.rows.widen.Statement.{statement}
 use Rattle.table.proofs.rows.widen.Tie as tie
-use Rattle.table.proofs.rows.widen.Reads as reads
-use Rattle.table.proofs.rows.widen.Lts as lts
 
 abbrev Inv-loop : tie.InvT-loop
-Inv-loop entries next₀ k₀ next k = ?
+Inv-loop entries next₀ k₀ next k = (k ≤ length entries) × (length next ≡ length next₀) × (next ≡ build k (λ j. getD entries j 0) ++ drop k next₀)
 
 abbrev μ-loop : tie.MeasureT-loop
-μ-loop entries next₀ k₀ next k = ?
+μ-loop entries next₀ k₀ next k = length entries - k
 
--- src/rows.rt:66:5
 loop-holds : tie.Need-loop-holds Inv-loop μ-loop
-loop-holds c = ?
+loop-holds c = (omega arith, refl, refl)
 
--- src/rows.rt:67:19
 shared-slice-read-next : tie.Need-shared-slice-read-next Inv-loop μ-loop
-shared-slice-read-next c = ?
+shared-slice-read-next c = omega arith
 
--- src/rows.rt:67:19
 cast-next : tie.Need-cast-next Inv-loop μ-loop
-cast-next c = ?
+cast-next c = omega (arith, c .shared-slice-known .given (c .before .before .loop .k))
 
--- src/rows.rt:67:9
 mul-next : tie.Need-mul-next Inv-loop μ-loop
-mul-next c = ?
+mul-next c = search needs
 
--- src/rows.rt:67:9
 slice-write-next : tie.Need-slice-write-next Inv-loop μ-loop
-slice-write-next c = ?
+slice-write-next c = omega arith
 
--- src/rows.rt:68:9
 add-k : tie.Need-add-k Inv-loop μ-loop
-add-k c = ?
+add-k c = omega arith
 
--- src/rows.rt:66:5
 loop-less : tie.Need-loop-less Inv-loop μ-loop
-loop-less c = ?
+loop-less c = omega arith
 
--- src/rows.rt:66:5
 loop-again : tie.Need-loop-again Inv-loop μ-loop
-loop-again c = ?
+loop-again c =
+    let g = c .before .before .before .args in
+    let k = c .before .before .loop .k in (
+      omega arith,
+      simp length-set (c .before .before .loop .inv .1),
+      rw (c .before .before .loop .inv .2) (build-store (λ j. getD (g .entries .now) j 0) k (g .next .now) (omega (arith, c .before .before .before .pre))),
+    )
 
--- src/rows.rt:61:1
 same-length : tie.Need-same-length Inv-loop μ-loop
-same-length c = ?
+same-length c = omega arith
 
--- src/rows.rt:61:1
 returns : tie.Need-returns Inv-loop μ-loop
-returns c = ?
+returns c =
+    let g = c .before .before .args in
+    let e : c .before .loop .k ≡ length (g .entries .now) = omega arith in
+    c .before .loop .inv .2 ∙ rw (e, build-getD (g .entries .now)) (stored-all (g .entries .now) (g .next .now) (length (g .entries .now)) (omega arith))
 
 pub widen-spec : {M : Type 1} → statement M
 widen-spec =

@@ -1,0 +1,147 @@
+-- `table::rows::distinct` meets its contract: the entries as next states, refined with as many classes as rows.
+-- Assumes nothing.
+use mathlib.Core.Path.{_≡_, refl, sym, _∙_, ap}
+use mathlib.Core.List.{List, _++_}
+use Prim.Native.Nat.{ℕ, _*_, _≤_}
+use native.Mathlib.Nat.{mul-le-mul}
+use native.Mathlib.Omega.{arith}
+use lib.ListN.{length, take, drop, length-append}
+use lib.Seq.{length-take-le, take-at}
+use borrow.Author.Needs.{needs}
+use Rattle.base.proofs.Decide.{decides-eqb}
+use Rattle.automaton.specs.Machine.{AlikeStates}
+use Rattle.automaton.specs.Partition.{Refinable, SplitsTo}
+use Rattle.automaton.proofs.Splits.{split-over, split-classes}
+use Rattle.table.proofs.Apart.{all-apart, not-all-apart, not-over}
+use Rattle.table.proofs.rows.distinct.Statement.{statement}
+use Rattle.table.proofs.rows.distinct.Tie as tie
+
+room-for-entries-requires : tie.Need-room-for-entries-requires
+room-for-entries-requires c κs = search needs
+
+room-for-classes-requires : tie.Need-room-for-classes-requires
+room-for-classes-requires c κs = search needs
+
+room-for-classes-requires-2 : tie.Need-room-for-classes-requires-2
+room-for-classes-requires-2 c κs = search needs
+
+room-for-firsts-requires : tie.Need-room-for-firsts-requires
+room-for-firsts-requires c κs = search needs
+
+-- the entries are few
+module _ (c : tie.Start) where
+  few : length (c .args .entries .now) ≤ 1024
+  few =
+      let m : c .args .rows * c .args .actions ≤ 1024 = mul-le-mul {n₂ = 64} {m₂ = 16} (c .pre .rows-high) (c .pre .actions-high) in
+      omega (arith, c .pre .machine .sized)
+
+array-borrow-prefix-next : tie.Need-array-borrow-prefix-next
+array-borrow-prefix-next c = omega (arith, few (c .before .before .before .before .before))
+
+slice-aggregate-widen : tie.Need-slice-aggregate-widen
+slice-aggregate-widen c = sym (length-take-le _ _ (omega (arith, few (c .before .before .before .before .before .before))))
+
+widen-requires : tie.Need-widen-requires
+widen-requires c κs = length-take-le _ _ (omega (arith, few (c .before .before .before .before .before .before)))
+
+-- the entries are written to the front
+module _ (c : tie.After-widen) where
+  abbrev entry : tie.Start
+  entry = c .before .before .before .before .before .before .before
+
+  abbrev entries : List ℕ
+  entries = entry .args .entries .now
+
+  written : c .widen .last .1 .0 ≡ entries
+  written = c .widen .ensures
+
+  front : (rest : List ℕ) → take (length entries) (c .widen .last .1 .0 ++ rest) ≡ entries
+  front rest = take-at (c .widen .last .1 .0) rest (length entries) (ap length written) ∙ written
+
+  all-rows : length (take (entry .args .rows) (c .before .before .before .before .room-for-classes .result)) ≡ entry .args .rows
+  all-rows = length-take-le _ _ (omega (arith, entry .pre .rows-high))
+
+array-share-prefix-next : tie.Need-array-share-prefix-next
+array-share-prefix-next c = simp length-append (omega (arith, ap length (written (c .before))))
+
+slice-aggregate-refine : tie.Need-slice-aggregate-refine
+slice-aggregate-refine c = sym (ap length (front (c .before .before) _))
+
+array-borrow-prefix-classes : tie.Need-array-borrow-prefix-classes
+array-borrow-prefix-classes c = search needs
+
+slice-aggregate-refine-2 : tie.Need-slice-aggregate-refine-2
+slice-aggregate-refine-2 c = sym (length-take-le _ _ (omega arith))
+
+array-borrow-prefix-other : tie.Need-array-borrow-prefix-other
+array-borrow-prefix-other c = search needs
+
+slice-aggregate-refine-3 : tie.Need-slice-aggregate-refine-3
+slice-aggregate-refine-3 c = sym (length-take-le _ _ (omega arith))
+
+slice-aggregate-refine-4 : tie.Need-slice-aggregate-refine-4
+slice-aggregate-refine-4 c = search needs
+
+refine-requires : tie.Need-refine-requires
+refine-requires c κs =
+    let w = c .before .before .before .before .before in
+    let fit = entry w .pre in
+    rw (front w)
+    (record {
+      sized = fit .machine .sized ∙ ap (λ (n : ℕ). n * entry w .args .actions) (sym (all-rows w));
+      paired = length-take-le _ _ (omega (arith, fit .rows-high)) ∙ sym (all-rows w);
+      some = omega (arith, all-rows w, fit .rows-low);
+      positive = fit .rows-low;
+      small = fit .rows-high;
+      room = omega (arith, fit .rows-high);
+    })
+
+-- what the refinement found
+module _ (c : tie.After-refine) where
+  abbrev widened : tie.After-widen
+  widened = c .before .before .before .before .before .before
+
+  splits : SplitsTo (AlikeStates 255 (entry widened .args .actions) (entries widened)) (entry widened .args .rows) (entry widened .args .rows) (c .refine .result)
+    (c .refine .last .1 .1 .1 .0) (c .refine .last .1 .1 .1 .1 .1 .0)
+  splits = (rw (front widened, all-rows widened) at (c .refine .ensures)) 255 (entry widened .pre .machine)
+
+enum-known-found : tie.Need-enum-known-found
+enum-known-found c = search needs
+
+enum-told : tie.Need-enum-told
+enum-told c = search needs
+
+returns : tie.Need-returns
+returns c =
+    let w = widened (c .before .before .before .before .before) in
+    λ d. not-over (entry w .args .rows) (entry w .args .actions) (entries w) (split-over _ _ _ _ _ _ (c .enum-told .given .1) (splits (c .before .before .before .before .before)))
+
+returns-2 : tie.Need-returns-2
+returns-2 c =
+    let r = c .before .before .before .before .before .before in
+    let s = split-classes _ _ _ _ _ _ _ (c .before .found .given .1) (splits r) in
+    decides-eqb _ (c .before .found .given .0 .0) _ (all-apart _ _ _ _ _ _ (s .1)) (not-all-apart _ _ _ _ _ _ (s .1) (s .0))
+
+pub distinct-spec : {M : Type 1} → statement M
+distinct-spec =
+    tie.close
+    (tie.spec
+    room-for-entries-requires
+    room-for-classes-requires
+    room-for-classes-requires-2
+    room-for-firsts-requires
+    array-borrow-prefix-next
+    slice-aggregate-widen
+    widen-requires
+    array-share-prefix-next
+    slice-aggregate-refine
+    array-borrow-prefix-classes
+    slice-aggregate-refine-2
+    array-borrow-prefix-other
+    slice-aggregate-refine-3
+    slice-aggregate-refine-4
+    refine-requires
+    enum-known-found
+    enum-told
+    returns
+    returns-2)
