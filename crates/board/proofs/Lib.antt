@@ -1,1 +1,4 @@
 pub mod PlaceLaws
+pub mod HistoryRules
+pub mod HistoryPlaces
+pub mod HistoryState
