@@ -22,6 +22,9 @@ no-rule e = absurd (let z : _≡_ {A = ℕ} 0 1 = cc in omega arith)
 pub same-table : {table other since since' : List ℕ} → rule table since ≡ rule other since' → table ≡ other
 same-table e = cc
 
+pub same-since : {table other since since' : List ℕ} → rule table since ≡ rule other since' → since ≡ since'
+same-since e = cc
+
 -- A place that is as a standing says, seen as a rule or as nothing.
 place-rule : (stored : List ℕ) (s : Standing) (c : Case) (table since : List ℕ) → s ≡ rule table since → PlaceIs stored s c → Keeps stored table since c
 place-rule stored s c table since e p = subst (λ (x : Standing). PlaceIs stored x c) e p

@@ -2,7 +2,8 @@
 -- Assumes nothing.
 use mathlib.Core.Path.{_≡_, refl, sym, _∙_, ap, subst}
 use mathlib.Core.Bool.{Bool, true, false, cond, not}
-use mathlib.Core.List.{List, [], _∷_, _++_}
+use mathlib.Core.List.{List, [], _∷_, _++_, append-nil}
+use mathlib.Core.Logic.{_↔_}
 use Prim.Native.Nat.{ℕ, _+_, _*_, _<_}
 use native.Mathlib.Omega.{arith}
 use lib.Arith.{digits-lt}
@@ -72,13 +73,19 @@ module _ (table : List ℕ) where
       watched-verdict t (v ++ w) ∙ ap tripped (run-append (rowStep table) (go 0) v w)
       ∙ tripped-stays (rowStep table) (run (rowStep table) (go 0) v) w (sym (watched-verdict t v) ∙ e)
 
-  -- So no sequence before one that does not satisfy a watched rule satisfies it.
-  pub unfulfilled-before : typeOf table ≡ 2 → (v w : List ℕ) → verdict table (v ++ w) ≡ false → verdict table v ≡ false
+  unfulfilled-before : typeOf table ≡ 2 → (v w : List ℕ) → verdict table (v ++ w) ≡ false → verdict table v ≡ false
   unfulfilled-before t v w e = go-by (verdict table v) refl
     where
       go-by : (b : Bool) → verdict table v ≡ b → b ≡ false
       go-by true p = not-both (sym (fulfilled-stays t v w p) ∙ e)
       go-by false p = refl
+
+  -- So a watched rule is satisfied by no part of a sequence from its front exactly where the whole does not satisfy it.
+  pub unfulfilled-exactly : typeOf table ≡ 2 → (w : List ℕ)
+    → ((earlier later : List ℕ) → w ≡ earlier ++ later → verdict table earlier ≡ false) ↔ (verdict table w ≡ false)
+  unfulfilled-exactly t w =
+      (λ f. f w [] (sym (append-nil w)),
+       λ e earlier later p. unfulfilled-before t earlier later (subst (λ (v : List ℕ). verdict table v ≡ false) p e))
 
   -- a type is one number
   one-type : {A : Type 0} → typeOf table ≡ 1 → typeOf table ≡ 2 → A

@@ -45,7 +45,7 @@ module _ (on : ℕ → Standing) (board : Board) (area : List ℕ) (s : StateIs 
   putOn i = cond (eqb place i) (rule table []) (on i)
 
   -- every rule has the table's number of actions
-  agreeing : SameActions board area (actionsOf table) → (i : ℕ) (other since : List ℕ) → on i ≡ rule other since → actionsOf other ≡ actionsOf table
+  pub agreeing : SameActions board area (actionsOf table) → (i : ℕ) (other since : List ℕ) → on i ≡ rule other since → actionsOf other ≡ actionsOf table
   agreeing same i other since e =
       sym (ap actionsOf (keeps on board area s i other since e .stands))
       ∙ same i (rule-below on board area s i other since e) (rule-taken on board area s i other since e)
@@ -187,10 +187,9 @@ module _ (events : List Event) (board : Board) (area : List ℕ) (s : StateIs (o
   act-state action (act-denied w p l place h d n) = s
   act-state action (act-permitted w p l n next m) = act-done (onPlace events) board area s action l n next m
 
--- A board used, with its whole area, only through its calls is as its events say: a place is empty exactly where nothing is on it, and a rule's
--- accepted table stands in the area, with the row that the actions permitted since it was put on lead to.
-pub history-state : {events : List Event} {board : Board} {area : List ℕ} → History events board area → StateIs (onPlace events) board area
-history-state (new {lent} {area} {board} m) = new-state lent area board m
-history-state (then-put {events} {board} {area = area} {place = place} {table = table} h p) = put-state events board area (history-state h) place table p
-history-state (then-take {events} {board} {area = area} {place = place} h p) = take-state events board area (history-state h) place p
-history-state (then-act {events} {board} {area = area} {action = action} h p) = act-state events board area (history-state h) action p
+-- A board used, with its whole area, only through its calls is as its events say.
+pub state-of : {events : List Event} {board : Board} {area : List ℕ} → History events board area → StateIs (onPlace events) board area
+state-of (new {lent} {area} {board} m) = new-state lent area board m
+state-of (then-put {events} {board} {area = area} {place = place} {table = table} h p) = put-state events board area (state-of h) place table p
+state-of (then-take {events} {board} {area = area} {place = place} h p) = take-state events board area (state-of h) place p
+state-of (then-act {events} {board} {area = area} {action = action} h p) = act-state events board area (state-of h) action p

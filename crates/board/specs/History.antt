@@ -88,15 +88,23 @@ pub record StateIs (on : ℕ → Standing) (board : Board) (area : List ℕ) : T
   pub beyond : (i : ℕ) → 8 ≤ i → on i ≡ nothing
   pub one : (i j : ℕ) (table other since since' : List ℕ) → on i ≡ rule table since → on j ≡ rule other since' → actionsOf table ≡ actionsOf other
 
--- No call was answered so.
 abbrev pub replyOf : Event → Reply
 replyOf (put-on place table reply) = reply
 replyOf (take-off place reply) = reply
 replyOf (act action reply) = reply
 
-abbrev pub NeverAnswered : Reply → List Event → Type 0
-NeverAnswered reply [] = Unit {0}
-NeverAnswered reply (event ∷ events) = (replyOf event ≡ reply → ⊥) × NeverAnswered reply events
+-- Document 01's number of a refusal; 0 for an answer that is none.
+abbrev pub refusalNumber : Reply → ℕ
+refusalNumber done = 0
+refusalNumber (permitted set) = 0
+refusalNumber (denied place) = 0
+refusalNumber (input number spot) = number
+refusalNumber (state number) = number
+
+-- No call was refused by this number.
+abbrev pub NeverRefused : ℕ → List Event → Type 0
+NeverRefused number [] = Unit {0}
+NeverRefused number (event ∷ events) = (refusalNumber (replyOf event) ≡ number → ⊥) × NeverRefused number events
 
 -- No refusal stated for putting on applies: 13, 22, 10 and 11, 23.
 pub record MayPut (events : List Event) (place : ℕ) (table : List ℕ) : Type 0 where
@@ -147,7 +155,7 @@ Member set i = set / 2 ^ i % 2 ≡ 1
 -- The answer to an action of the list.
 pub data Judges (events : List Event) (action : ℕ) : Reply → Type 0 where
   permits : (set : ℕ) → NoneViolated events action → ((i : ℕ) → Member set i ↔ FirstFulfilled events action i) → Judges events action (permitted set)
-  denies : (place : ℕ) → Violated events action place → ((i : ℕ) → i < place → Violated events action i → ⊥) → Judges events action (denied place)
+  denies-lowest : (place : ℕ) → Violated events action place → ((i : ℕ) → i < place → Violated events action i → ⊥) → Judges events action (denied place)
 
 abbrev pub IsPermitted : Reply → Type 0
 IsPermitted reply = (set : ℕ) × (reply ≡ permitted set)
