@@ -8,11 +8,11 @@ use mathlib.Core.Logic.{_↔_}
 use Prim.Native.Nat.{ℕ, _<_}
 use native.Mathlib.Omega.{arith}
 use Rattle.trace.proofs.Laws.{not-both}
-use Rattle.table.specs.Table.{typeOf, actionsOf, verdict}
+use Rattle.table.specs.Table.{typeOf, verdict}
 use Rattle.board.specs.Places.{caseAt, taken, tableAt}
 use Rattle.board.specs.Possible.{Possible}
-use Rattle.board.specs.Calls.{Reply, done, permitted, denied, Whole, PutsOn, TakesOff, Acts, act-denied, act-permitted}
-use Rattle.board.specs.History.{Event, put-on, take-off, act, History, new, then-put, then-take, then-act, Standing, nothing, rule, isPermitted, followed, onPlace, PlaceIs, StateIs}
+use Rattle.board.specs.Calls.{Reply, done, permitted, denied, Whole, PutsOn, TakesOff, Acts, act-permitted}
+use Rattle.board.specs.History.{Event, act, History, new, then-put, then-take, then-act, Standing, nothing, rule, isPermitted, followed, onPlace, PlaceIs, StateIs}
 use Rattle.board.specs.History.{NeverRefused, MayPut, MayTake, Listed, Violated, NoneViolated, FirstFulfilled, Member, Judges, permits, denies-lowest, IsPermitted, takenOff}
 use Rattle.board.specs.declared.Case.the-variants.{Empty}
 use Rattle.board.specs.declared.Board.{Board}
@@ -31,9 +31,10 @@ history-state h = state-of h
 -- A place is empty exactly where nothing is on it.
 pub empty-exactly : {events : List Event} {board : Board} {area : List ℕ} → History events board area → (i : ℕ) → i < 8
     → (onPlace events i ≡ nothing) ↔ (caseAt board i ≡ Empty)
-empty-exactly {events} {board} {area} h i low =
-    (λ e. subst (λ (x : Standing). PlaceIs (tableAt area i) x (caseAt board i)) e (history-state h .places i low),
-     λ e. free-nothing (onPlace events) board area (history-state h) i low (ap taken e))
+empty-exactly {events} {board} {area} h i low = (
+  λ e. subst (λ (x : Standing). PlaceIs (tableAt area i) x (caseAt board i)) e (history-state h .places i low),
+  λ e. free-nothing (onPlace events) board area (history-state h) i low (ap taken e),
+)
 
 -- The board can be, and the area is whole.
 pub history-possible : {events : List Event} {board : Board} {area : List ℕ} → History events board area → Possible board area
@@ -97,7 +98,7 @@ pub deny-otherwise : {events : List Event} {board : Board} {area : List ℕ} →
 deny-otherwise {events} h {action} l p n = at (act-judges h l p)
   where
     at : {reply : Reply} → Judges events action reply
-      → (place : ℕ) × (reply ≡ denied place) × Violated events action place × ((i : ℕ) → i < place → Violated events action i → ⊥)
+        → (place : ℕ) × (reply ≡ denied place) × Violated events action place × ((i : ℕ) → i < place → Violated events action i → ⊥)
     at (permits set none members) = absurd (n none)
     at (denies-lowest place v lowest) = (place, refl, v, lowest)
 

@@ -35,7 +35,7 @@ module _ (events : List Event) (board : Board) (area : List ℕ) (s : StateIs (o
 
   -- and one that does not has none
   not-violated : (i : ℕ) → deniesAt i ≡ false → (table since : List ℕ) → onPlace events i ≡ rule table since → typeOf table ≡ 1
-    → verdict table (since ++ (action ∷ [])) ≡ true
+      → verdict table (since ++ (action ∷ [])) ≡ true
   not-violated i d table since e t =
       let k = keeps (onPlace events) board area s i table since e in
       not-denied table since action (k .after) (rw (k .stands) at d) t
@@ -76,9 +76,10 @@ module _ (events : List Event) (board : Board) (area : List ℕ) (s : StateIs (o
 
   -- The set in a permitted answer is that of the places whose watched rule the action is the first to fulfil.
   permitted-set : (i : ℕ) → Member (fulfilledBelow board area action 8) i ↔ FirstFulfilled events action i
-  permitted-set i =
-      (λ m. let f = member-fulfils board area action i m in fulfils-first i (f .0) (f .1),
-       λ f. fulfils-member board area action i (rule-below (onPlace events) board area s i (f .table) (f .since) (f .on)) (first-fulfils i f))
+  permitted-set i = (
+    λ m. let f = member-fulfils board area action i m in fulfils-first i (f .0) (f .1),
+    λ f. fulfils-member board area action i (rule-below (onPlace events) board area s i (f .table) (f .since) (f .on)) (first-fulfils i f),
+  )
 
   -- The answer to an action of the list.
   pub acts-judges : Listed events action → {reply : Reply} {next : Board} → Acts board area action reply next → Judges events action reply

@@ -108,7 +108,7 @@ module _ (board : Board) (area : List ℕ) where
     put-gives (put w h p t type actions rows (accepts a) s) = past-22 w h p t (inr (λ n. n (a .formed), inr (λ n. n (a .canonical), inr (λ n. n s, refl))))
 
     pub puts-on-determined : {r r' : Reply} {b b' : Board} {l l' : List ℕ}
-      → PutsOn board area place table r b l → PutsOn board area place table r' b' l' → (r ≡ r') × (b ≡ b') × (l ≡ l')
+        → PutsOn board area place table r b l → PutsOn board area place table r' b' l' → (r ≡ r') × (b ≡ b') × (l ≡ l')
     puts-on-determined p q = parts (one-outcome put-checks (λ x y e f. e ∙ sym f) _ _ (put-gives p) (put-gives q))
 
   -- Taking off.
@@ -129,16 +129,16 @@ module _ (board : Board) (area : List ℕ) where
     take-gives (taken-off w h p t) = inr (λ n. n w, inr (λ l. not-both-sides h l, inr (λ n. n p, inr (λ e. not-both (sym t ∙ e), refl))))
 
     pub takes-off-determined : {r r' : Reply} {b b' : Board} {l l' : List ℕ}
-      → TakesOff board area place r b l → TakesOff board area place r' b' l' → (r ≡ r') × (b ≡ b') × (l ≡ l')
+        → TakesOff board area place r b l → TakesOff board area place r' b' l' → (r ≡ r') × (b ≡ b') × (l ≡ l')
     takes-off-determined p q = parts (one-outcome take-checks (λ x y e f. e ∙ sym f) _ _ (take-gives p) (take-gives q))
 
   -- An action.
   module _ (action : ℕ) where
     data Decided : Outcome → Type 0 where
       lowest : (place : ℕ) → place < 8 → denies (tableAt area place) action (caseAt board place) ≡ true → NoneDenies board area action place
-        → Decided (refusal (denied place))
+          → Decided (refusal (denied place))
       all : NoneDenies board area action 8 → (next : Board) → AllMoved board area action next
-        → Decided (outcome (permitted (fulfilledBelow board area action 8)) next area)
+          → Decided (outcome (permitted (fulfilledBelow board area action 8)) next area)
 
     one-lowest : (i j : ℕ) → denies (tableAt area i) action (caseAt board i) ≡ true → NoneDenies board area action j → i < j → ⊥
     one-lowest i j d n l = not-both (sym d ∙ n i l)

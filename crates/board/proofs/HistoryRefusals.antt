@@ -1,18 +1,17 @@
 -- Which refusals a board that is as its events say gives: neither 14 nor 25, and none that does not apply.
 -- Assumes nothing.
 use mathlib.Core.Path.{_≡_, refl, sym, _∙_, ap}
-use mathlib.Core.Bool.{true, false}
+use mathlib.Core.Bool.{false}
 use mathlib.Core.List.{List}
-use Prim.Native.Nat.{ℕ, _<_}
+use Prim.Native.Nat.{ℕ}
 use native.Mathlib.Omega.{arith}
 use Rattle.trace.proofs.Laws.{not-both}
 use Rattle.table.specs.Table.{actionsOf}
 use Rattle.table.specs.Answer.{accepts, malformed, not-canonical}
-use Rattle.board.specs.Places.{caseAt, taken}
 use Rattle.board.specs.Possible.{Possible}
 use Rattle.board.specs.Calls.{Reply, done, SameActions, PutsOn, put-14, put-13, put-25, put-22, put-refused, put-23, put}
 use Rattle.board.specs.Calls.{TakesOff, take-14, take-13, take-25, take-21, taken-off, Acts, act-14, act-25, act-24, act-12, act-denied, act-permitted}
-use Rattle.board.specs.History.{Event, nothing, isDone, onPlace, StateIs, refusalNumber, MayPut, MayTake}
+use Rattle.board.specs.History.{Event, isDone, onPlace, StateIs, refusalNumber, MayPut, MayTake}
 use Rattle.board.specs.declared.Board.{Board}
 use Rattle.board.proofs.HistoryPlaces.{keeps, taken-rule, free-nothing, nothing-free, possible}
 use Rattle.board.proofs.HistoryState.{agreeing}

@@ -8,7 +8,7 @@ use lib.Dec.{eqb}
 use borrow.Author.Tests.{eqb-true}
 use Rattle.trace.proofs.Laws.{not-both}
 use Rattle.table.specs.Table.{typeOf, verdict}
-use Rattle.board.specs.Calls.{Reply, PutsOn, put-14, put-13, put-25, put-22, put-refused, put-23, put, TakesOff, Acts}
+use Rattle.board.specs.Calls.{Reply, PutsOn, put-14, put-13, put-25, put-22, put-refused, put-23, put, Acts}
 use Rattle.board.specs.History.{Event, put-on, take-off, act, History, then-put, then-take, then-act, Standing, nothing, rule, isDone, isPermitted, followed, onPlace, StateIs, takenOff}
 use Rattle.board.specs.declared.Board.{Board}
 use Rattle.board.proofs.HistoryRules.{fulfilled-stays}
@@ -38,7 +38,7 @@ beginning (act action reply ∷ later) earlier h = beginning later earlier (befo
 -- nothing is put on a place with a rule
 module _ (events : List Event) (board : Board) (area : List ℕ) (s : StateIs (onPlace events) board area) (i : ℕ) (table since : List ℕ) (on : onPlace events i ≡ rule table since) where
   put-keeps : (place : ℕ) (other : List ℕ) {reply : Reply} {next : Board} {rest : List ℕ} → PutsOn board area place other reply next rest
-    → onPlace (put-on place other reply ∷ events) i ≡ rule table since
+      → onPlace (put-on place other reply ∷ events) i ≡ rule table since
   put-keeps place other (put-14 n) = on
   put-keeps place other (put-13 w h) = on
   put-keeps place other (put-25 w h n) = on
@@ -72,7 +72,7 @@ module _ (table : List ℕ) (watched : typeOf table ≡ 2) where
   moved-on false action x f = f
 
   pub still-fulfilled : (later earlier : List Event) (i : ℕ) {board : Board} {area : List ℕ} → History (later ++ earlier) board area → takenOff i later ≡ false
-    → StillFulfilled (onPlace earlier i) table → StillFulfilled (onPlace (later ++ earlier) i) table
+      → StillFulfilled (onPlace earlier i) table → StillFulfilled (onPlace (later ++ earlier) i) table
   still-fulfilled [] earlier i h t f = f
   still-fulfilled (put-on place other reply ∷ later) earlier i h t f =
       let (board, area, g, p) = before-put h in

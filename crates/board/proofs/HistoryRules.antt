@@ -8,18 +8,17 @@ use Prim.Native.Nat.{ℕ, _+_, _*_, _<_}
 use native.Mathlib.Omega.{arith}
 use lib.Arith.{digits-lt}
 use lib.Dec.{eqb}
-use lib.ListN.{getD}
 use borrow.Author.Tests.{eqb-true, eqb-false}
 use Rattle.trace.specs.Trace.{Sequence, Move, trip, go, Step, after, run, tripped}
 use Rattle.trace.proofs.Laws.{not-both, run-trip, run-append}
 use Rattle.automaton.specs.Machine.{moveBy}
-use Rattle.table.specs.Table.{typeOf, actionsOf, rowsOf, entriesOf, rowStep, WellFormed, judged, verdict}
+use Rattle.table.specs.Table.{typeOf, actionsOf, rowsOf, rowStep, WellFormed, judged, verdict}
 use Rattle.board.specs.Places.{taken}
-use Rattle.board.specs.Possible.{Holds, CaseFits}
-use Rattle.board.specs.Calls.{entryAt, denies, watchedMove, moved, fulfils, firstCase}
+use Rattle.board.specs.Possible.{CaseFits}
+use Rattle.board.specs.Calls.{entryAt, denies, moved, fulfils, firstCase}
 use Rattle.board.specs.History.{CaseAfter, at-enforced, at-watched, at-fulfilled}
 use Rattle.board.specs.declared.Case.{Case}
-use Rattle.board.specs.declared.Case.the-variants.{Empty, Enforced, Watched, Fulfilled}
+use Rattle.board.specs.declared.Case.the-variants.{Enforced, Watched, Fulfilled}
 
 -- A move to a row below n, or a trip.
 abbrev Below : ℕ → Move ℕ → Type 0
@@ -82,10 +81,11 @@ module _ (table : List ℕ) where
 
   -- So a watched rule is satisfied by no part of a sequence from its front exactly where the whole does not satisfy it.
   pub unfulfilled-exactly : typeOf table ≡ 2 → (w : List ℕ)
-    → ((earlier later : List ℕ) → w ≡ earlier ++ later → verdict table earlier ≡ false) ↔ (verdict table w ≡ false)
-  unfulfilled-exactly t w =
-      (λ f. f w [] (sym (append-nil w)),
-       λ e earlier later p. unfulfilled-before t earlier later (subst (λ (v : List ℕ). verdict table v ≡ false) p e))
+      → ((earlier later : List ℕ) → w ≡ earlier ++ later → verdict table earlier ≡ false) ↔ (verdict table w ≡ false)
+  unfulfilled-exactly t w = (
+    λ f. f w [] (sym (append-nil w)),
+    λ e earlier later p. unfulfilled-before t earlier later (subst (λ (v : List ℕ). verdict table v ≡ false) p e),
+  )
 
   -- a type is one number
   one-type : {A : Type 0} → typeOf table ≡ 1 → typeOf table ≡ 2 → A
@@ -118,7 +118,7 @@ module _ (table : List ℕ) where
 
     -- An action fulfils a rule exactly where it is watched, not satisfied before and satisfied now.
     pub fulfils-now : {c : Case} → CaseAfter table w c → fulfils table a c ≡ true
-      → (typeOf table ≡ 2) × (verdict table w ≡ false) × (verdict table (w ++ (a ∷ [])) ≡ true)
+        → (typeOf table ≡ 2) × (verdict table w ≡ false) × (verdict table (w ++ (a ∷ [])) ≡ true)
     fulfils-now (at-enforced row t e) f = not-both (sym f)
     fulfils-now (at-watched row t e) f = (t, watched-verdict t w ∙ ap tripped e, next-watched t row e ∙ f)
     fulfils-now (at-fulfilled t e) f = not-both (sym f)
@@ -134,7 +134,7 @@ module _ (table : List ℕ) where
     moved-after (at-watched row t e) d = by-mark (eqb (entryAt table row a) 255) (next-run (go row) e)
       where
         by-mark : (b : Bool) → run (rowStep table) (go 0) (w ++ (a ∷ [])) ≡ moveBy b (entryAt table row a)
-          → CaseAfter table (w ++ (a ∷ [])) (cond b Fulfilled (Watched (entryAt table row a)))
+            → CaseAfter table (w ++ (a ∷ [])) (cond b Fulfilled (Watched (entryAt table row a)))
         by-mark true r = at-fulfilled t r
         by-mark false r = at-watched (entryAt table row a) t r
     moved-after (at-fulfilled t e) d = at-fulfilled t (next-run trip e)

@@ -51,12 +51,12 @@ module _ (on : ℕ → Standing) (board : Board) (area : List ℕ) (s : StateIs 
       ∙ same i (rule-below on board area s i other since e) (rule-taken on board area s i other since e)
 
   put-agreeing : SameActions board area (actionsOf table) → (i : ℕ) (b : Bool) (other since : List ℕ)
-    → cond b (rule table []) (on i) ≡ rule other since → actionsOf other ≡ actionsOf table
+      → cond b (rule table []) (on i) ≡ rule other since → actionsOf other ≡ actionsOf table
   put-agreeing same i true other since e = sym (ap actionsOf (same-table e))
   put-agreeing same i false other since e = agreeing same i other since e
 
   put-done : place < 8 → Accepted table → SameActions board area (actionsOf table)
-    → StateIs putOn (withCase board place (firstCase (typeOf table))) (withBytes area place table)
+      → StateIs putOn (withCase board place (firstCase (typeOf table))) (withBytes area place table)
   put-done low acc same =
       record {
         eight = length-with-case board place (firstCase (typeOf table)) (s .eight);
@@ -74,7 +74,7 @@ module _ (on : ℕ → Standing) (board : Board) (area : List ℕ) (s : StateIs 
       beyond i h false e = s .beyond i h
 
       at : (i : ℕ) → i < 8 → (b : Bool) → eqb place i ≡ b
-        → PlaceIs (tableAt (withBytes area place table) i) (cond b (rule table []) (on i)) (caseAt (withCase board place (firstCase (typeOf table))) i)
+          → PlaceIs (tableAt (withBytes area place table) i) (cond b (rule table []) (on i)) (caseAt (withCase board place (firstCase (typeOf table))) i)
       at i h true e =
           subst (λ (k : ℕ). Keeps (tableAt (withBytes area place table) k) table [] (caseAt (withCase board place (firstCase (typeOf table))) k)) (eqb-true place i e)
           (record {
@@ -84,8 +84,10 @@ module _ (on : ℕ → Standing) (board : Board) (area : List ℕ) (s : StateIs 
             after = subst (CaseAfter table []) (sym (case-with board place (firstCase (typeOf table)) (s .eight) low)) (first-after table (acc .formed));
           })
       at i h false e =
-          rw (table-with-other area place table (s .whole) low (fits-place table (acc .formed)) i (λ p. eqb-false place i e (sym p)),
-            case-with-other board place (firstCase (typeOf table)) (s .eight) i (λ p. eqb-false place i e (sym p)))
+          rw (
+            table-with-other area place table (s .whole) low (fits-place table (acc .formed)) i (λ p. eqb-false place i e (sym p)),
+            case-with-other board place (firstCase (typeOf table)) (s .eight) i (λ p. eqb-false place i e (sym p)),
+          )
           (s .places i h)
 
 -- Taking off.
@@ -112,11 +114,13 @@ module _ (on : ℕ → Standing) (board : Board) (area : List ℕ) (s : StateIs 
       beyond i h false = s .beyond i h
 
       at : (i : ℕ) → i < 8 → (b : Bool) → eqb place i ≡ b
-        → PlaceIs (tableAt (withBytes area place zeros) i) (cond b nothing (on i)) (caseAt (withCase board place Empty) i)
+          → PlaceIs (tableAt (withBytes area place zeros) i) (cond b nothing (on i)) (caseAt (withCase board place Empty) i)
       at i h true e = subst (λ (k : ℕ). caseAt (withCase board place Empty) k ≡ Empty) (eqb-true place i e) (case-with board place Empty (s .eight) low)
       at i h false e =
-          rw (table-with-other area place zeros (s .whole) low short i (λ p. eqb-false place i e (sym p)),
-            case-with-other board place Empty (s .eight) i (λ p. eqb-false place i e (sym p)))
+          rw (
+            table-with-other area place zeros (s .whole) low short i (λ p. eqb-false place i e (sym p)),
+            case-with-other board place Empty (s .eight) i (λ p. eqb-false place i e (sym p)),
+          )
           (s .places i h)
 
 -- A permitted action.
@@ -132,7 +136,7 @@ module _ (on : ℕ → Standing) (board : Board) (area : List ℕ) (s : StateIs 
   followed-rule (rule other before) table since e = (before, ap (λ (t : List ℕ). rule t before) (same-table e))
 
   followed-place : (stored : List ℕ) (x : Standing) (c : Case) → PlaceIs stored x c → denies stored action c ≡ false
-    → ((table since : List ℕ) → x ≡ rule table since → action < actionsOf table) → PlaceIs stored (followed action x) (moved stored action c)
+      → ((table since : List ℕ) → x ≡ rule table since → action < actionsOf table) → PlaceIs stored (followed action x) (moved stored action c)
   followed-place stored nothing c p d l = ap (moved stored action) p
   followed-place stored (rule table since) c p d l =
       record {
@@ -143,7 +147,7 @@ module _ (on : ℕ → Standing) (board : Board) (area : List ℕ) (s : StateIs 
       }
 
   act-done : InList board area action → NoneDenies board area action 8 → (next : Board) → AllMoved board area action next
-    → StateIs (λ i. followed action (on i)) next area
+      → StateIs (λ i. followed action (on i)) next area
   act-done l d next m =
       record {
         eight = m .eight;
@@ -162,7 +166,7 @@ module _ (on : ℕ → Standing) (board : Board) (area : List ℕ) (s : StateIs 
 -- One more call.
 module _ (events : List Event) (board : Board) (area : List ℕ) (s : StateIs (onPlace events) board area) where
   put-state : (place : ℕ) (table : List ℕ) {reply : Reply} {next : Board} {rest : List ℕ} → PutsOn board area place table reply next rest
-    → StateIs (onPlace (put-on place table reply ∷ events)) next rest
+      → StateIs (onPlace (put-on place table reply ∷ events)) next rest
   put-state place table (put-14 w) = s
   put-state place table (put-13 w h) = s
   put-state place table (put-25 w h n) = s
@@ -172,7 +176,7 @@ module _ (events : List Event) (board : Board) (area : List ℕ) (s : StateIs (o
   put-state place table (put w h p t type actions rows (accepts acc) same) = put-done (onPlace events) board area s place table h acc same
 
   take-state : (place : ℕ) {reply : Reply} {next : Board} {rest : List ℕ} → TakesOff board area place reply next rest
-    → StateIs (onPlace (take-off place reply ∷ events)) next rest
+      → StateIs (onPlace (take-off place reply ∷ events)) next rest
   take-state place (take-14 w) = s
   take-state place (take-13 w h) = s
   take-state place (take-25 w h n) = s

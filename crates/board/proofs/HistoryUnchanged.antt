@@ -2,7 +2,7 @@
 -- Assumes nothing.
 use mathlib.Core.Path.{_≡_, refl}
 use mathlib.Core.List.{List}
-use Prim.Native.Nat.{ℕ, _≤_, _<_}
+use Prim.Native.Nat.{ℕ, _≤_}
 use native.Mathlib.Nat.{le-of-eq}
 use native.Mathlib.Omega.{arith}
 use lib.ListN.{getD, replicate, length-replicate}
@@ -16,7 +16,7 @@ use Rattle.board.proofs.PlaceLaws.{byte-behind, fits-place}
 module _ {board : Board} {area : List ℕ} where
   -- A refused putting on changes neither the board nor the area.
   pub put-refused-unchanged : {place : ℕ} {table : List ℕ} {reply : Reply} {next : Board} {rest : List ℕ}
-    → PutsOn board area place table reply next rest → (reply ≡ done → ⊥) → (next ≡ board) × (rest ≡ area)
+      → PutsOn board area place table reply next rest → (reply ≡ done → ⊥) → (next ≡ board) × (rest ≡ area)
   put-refused-unchanged (put-14 n) d = (refl, refl)
   put-refused-unchanged (put-13 w h) d = (refl, refl)
   put-refused-unchanged (put-25 w h n) d = (refl, refl)
@@ -27,7 +27,7 @@ module _ {board : Board} {area : List ℕ} where
 
   -- So for taking off.
   pub take-refused-unchanged : {place : ℕ} {reply : Reply} {next : Board} {rest : List ℕ}
-    → TakesOff board area place reply next rest → (reply ≡ done → ⊥) → (next ≡ board) × (rest ≡ area)
+      → TakesOff board area place reply next rest → (reply ≡ done → ⊥) → (next ≡ board) × (rest ≡ area)
   take-refused-unchanged (take-14 n) d = (refl, refl)
   take-refused-unchanged (take-13 w h) d = (refl, refl)
   take-refused-unchanged (take-25 w h n) d = (refl, refl)
@@ -45,7 +45,7 @@ module _ {board : Board} {area : List ℕ} where
 
   -- Bytes beyond the eight places are not touched.
   pub put-beyond : {place : ℕ} {table : List ℕ} {reply : Reply} {next : Board} {rest : List ℕ}
-    → PutsOn board area place table reply next rest → (k : ℕ) → 8256 ≤ k → getD rest k 0 ≡ getD area k 0
+      → PutsOn board area place table reply next rest → (k : ℕ) → 8256 ≤ k → getD rest k 0 ≡ getD area k 0
   put-beyond (put-14 n) k g = refl
   put-beyond (put-13 w h) k g = refl
   put-beyond (put-25 w h n) k g = refl
@@ -55,7 +55,7 @@ module _ {board : Board} {area : List ℕ} where
   put-beyond {place} {table} (put w h p t type actions rows (accepts a) same) k g = byte-behind area place table w h (fits-place table (a .formed)) k 0 (omega arith)
 
   pub take-beyond : {place : ℕ} {reply : Reply} {next : Board} {rest : List ℕ}
-    → TakesOff board area place reply next rest → (k : ℕ) → 8256 ≤ k → getD rest k 0 ≡ getD area k 0
+      → TakesOff board area place reply next rest → (k : ℕ) → 8256 ≤ k → getD rest k 0 ≡ getD area k 0
   take-beyond (take-14 n) k g = refl
   take-beyond (take-13 w h) k g = refl
   take-beyond (take-25 w h n) k g = refl

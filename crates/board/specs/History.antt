@@ -26,11 +26,11 @@ pub data Event : Type 0 where
 pub data History : List Event → Board → List ℕ → Type 0 where
   new : {lent area : List ℕ} {board : Board} → Makes lent done board area → History [] board area
   then-put : {events : List Event} {board board' : Board} {area area' : List ℕ} {place : ℕ} {table : List ℕ} {reply : Reply}
-    → History events board area → PutsOn board area place table reply board' area' → History (put-on place table reply ∷ events) board' area'
+      → History events board area → PutsOn board area place table reply board' area' → History (put-on place table reply ∷ events) board' area'
   then-take : {events : List Event} {board board' : Board} {area area' : List ℕ} {place : ℕ} {reply : Reply}
-    → History events board area → TakesOff board area place reply board' area' → History (take-off place reply ∷ events) board' area'
+      → History events board area → TakesOff board area place reply board' area' → History (take-off place reply ∷ events) board' area'
   then-act : {events : List Event} {board board' : Board} {area : List ℕ} {action : ℕ} {reply : Reply}
-    → History events board area → Acts board area action reply board' → History (act action reply ∷ events) board' area
+      → History events board area → Acts board area action reply board' → History (act action reply ∷ events) board' area
 
 -- What events say of a place: nothing is on it, or the rule of a table, with the actions permitted since it was put on, in their order.
 pub data Standing : Type 0 where
