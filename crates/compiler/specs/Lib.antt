@@ -1,3 +1,4 @@
 pub mod Nodes
 pub mod Limits
 pub mod Compiles
+pub mod SheetFacts

@@ -1,0 +1,3 @@
+pub mod RuleParts
+pub mod PartRows
+pub mod NodeTheory
