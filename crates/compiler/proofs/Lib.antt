@@ -1,3 +1,4 @@
 pub mod RuleParts
 pub mod PartRows
 pub mod NodeTheory
+pub mod Unique
