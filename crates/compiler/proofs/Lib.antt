@@ -2,3 +2,4 @@ pub mod RuleParts
 pub mod PartRows
 pub mod NodeTheory
 pub mod Unique
+pub mod Outcome
