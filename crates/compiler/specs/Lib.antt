@@ -2,3 +2,4 @@ pub mod Nodes
 pub mod Limits
 pub mod Compiles
 pub mod SheetFacts
+pub mod Demands
