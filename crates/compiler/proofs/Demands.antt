@@ -14,16 +14,14 @@ use Rattle.table.specs.Answer.{modeNumber}
 use Rattle.table.proofs.Verdicts.{equal-exactly-when-same-verdicts, accepted-has-fewest-rows}
 use Rattle.sheet.specs.Sheet.{actionCount, nodeCount, propositionsOf}
 use Rattle.sheet.specs.Meaning.{sheetPolicy}
-use Rattle.sheet.specs.Judge.{judge, faulty}
 use Rattle.sheet.specs.declared.TypedNode.{TypedNode}
-use Rattle.sheet.specs.declared.Fault.{Fault}
 use Rattle.compiler.specs.Nodes.{Tables}
 use Rattle.compiler.specs.Limits.{OverValues, OverRows, Built}
-use Rattle.compiler.specs.Compiles.{Answer, table, refused, tableBytes, SoundSheet, PolicyNode, BuiltBefore, Compiles, faulted, over-values, over-rows, compiled}
+use Rattle.compiler.specs.Compiles.{Answer, table, tableBytes, SoundSheet, PolicyNode, BuiltBefore, Compiles, faulted, over-values, over-rows, compiled}
 use Rattle.compiler.specs.SheetFacts.{SheetFacts, FactsOf}
-use Rattle.compiler.specs.Demands.{GetsTable, InsideLimits, NoRefusal, IsTable, OneActionList, SameSatisfied}
+use Rattle.compiler.specs.Demands.{GetsTable, InsideLimits, NoneOver, NoRefusal, IsTable, OneActionList, SameSatisfied}
 use Rattle.compiler.proofs.Unique.{few-rows-suffice, over-values-same}
-use Rattle.compiler.proofs.Outcome.{tables-agree}
+use Rattle.compiler.proofs.Outcome.{same-types, not-faulty, tables-agree}
 use Rattle.compiler.proofs.CompiledTable.{TableOf, compiled-table}
 
 module _ (bytes : List ℕ) (valueLimit rowLimit : ℕ) (facts : FactsOf bytes) where
@@ -52,53 +50,37 @@ module _ (bytes : List ℕ) (valueLimit rowLimit : ℕ) (facts : FactsOf bytes) 
   compiles-exactly = (λ g. gets-inside (g .compiles), inside-gets)
 
   -- no node of a compiled sheet is over a limit, whoever built the nodes before it
-  inside-unrefused : InsideLimits bytes valueLimit rowLimit → NoRefusal bytes valueLimit rowLimit
-  inside-unrefused inside = record { types = inside .types; sound = inside .sound; few-values = values; few-rows = rows }
+  inside-none : (inside : InsideLimits bytes valueLimit rowLimit) → NoneOver bytes valueLimit rowLimit (inside .types)
+  inside-none inside = record { few-values = values; few-rows = λ tables n h built mode p. rows n h mode p }
     where
+      sheet : SheetFacts bytes (inside .types)
+      sheet = facts (inside .types) (inside .sound)
+
       values : (tables : Tables) (n : ℕ) → n < nodeCount bytes → BuiltBefore bytes (inside .types) tables valueLimit rowLimit n → (mode : Mode)
           → PolicyNode (inside .types) n mode → OverValues bytes tables n valueLimit → ⊥
       values tables n h built mode p over =
           inside .built n h mode p .few-values
-          (over-values-same bytes (inside .types) (facts (inside .types) (inside .sound)) n h mode p tables (inside .tables)
-          (tables-agree bytes valueLimit rowLimit (inside .types) (facts (inside .types) (inside .sound)) tables (inside .tables) n (nodeCount bytes) (omega arith) built
-          (inside .built))
+          (over-values-same bytes (inside .types) sheet n h mode p tables (inside .tables)
+          (tables-agree bytes valueLimit rowLimit (inside .types) sheet tables (inside .tables) n (nodeCount bytes) (omega arith) built (inside .built))
           valueLimit over)
 
-      rows : (tables : Tables) (n : ℕ) → n < nodeCount bytes → BuiltBefore bytes (inside .types) tables valueLimit rowLimit n → (mode : Mode)
-          → PolicyNode (inside .types) n mode → OverRows bytes n rowLimit → ⊥
-      rows tables n h built mode p over = few-rows-suffice (inside .built n h mode p .fits) rowLimit (inside .built n h mode p .few-rows) over
+      rows : (n : ℕ) → n < nodeCount bytes → (mode : Mode) → PolicyNode (inside .types) n mode → OverRows bytes n rowLimit → ⊥
+      rows n h mode p over = few-rows-suffice (inside .built n h mode p .fits) rowLimit (inside .built n h mode p .few-rows) over
 
   table-unrefused : {x : Answer} {t : List ℕ} → Compiles bytes valueLimit rowLimit x t → IsTable x → NoRefusal bytes valueLimit rowLimit
   table-unrefused (faulted f e) i = absurd i
   table-unrefused (over-values types s tables n h built mode p over) i = absurd i
   table-unrefused (over-rows types s tables n h built mode p few over) i = absurd i
   table-unrefused (compiled types s tables built mode last b) i =
-      inside-unrefused (record { types = types; sound = s; tables = tables; built = built })
+      record { types = types; sound = s; none = inside-none (record { types = types; sound = s; tables = tables; built = built }) }
 
-  same-types : {types other : List TypedNode} → SoundSheet bytes types → SoundSheet bytes other → types ≡ other
-  same-types s t = cc (s .judged, t .judged)
-
-  not-faulty : {types : List TypedNode} → SoundSheet bytes types → (f : Fault) → judge bytes ≡ faulty f → ⊥
-  not-faulty s f e = let z : _≡_ {A = ℕ} 0 1 = cc (s .judged) in omega arith
+  none-over : {types : List TypedNode} → SoundSheet bytes types → NoRefusal bytes valueLimit rowLimit → NoneOver bytes valueLimit rowLimit types
+  none-over s u = subst (NoneOver bytes valueLimit rowLimit) (same-types (u .sound) s) (u .none)
 
   unrefused-table : {x : Answer} {t : List ℕ} → Compiles bytes valueLimit rowLimit x t → NoRefusal bytes valueLimit rowLimit → IsTable x
   unrefused-table (faulted f e) u = absurd (not-faulty (u .sound) f e)
-  unrefused-table (over-values types s tables n h built mode p over) u = absurd (at (u .types) (same-types s (u .sound)) (u .few-values))
-    where
-      at : (types' : List TypedNode) → types ≡ types'
-          → ((tables : Tables) (n : ℕ) → n < nodeCount bytes → BuiltBefore bytes types' tables valueLimit rowLimit n → (mode : Mode)
-            → PolicyNode types' n mode → OverValues bytes tables n valueLimit → ⊥)
-          → ⊥
-      at types' e none =
-          none tables n h (subst (λ (l : List TypedNode). BuiltBefore bytes l tables valueLimit rowLimit n) e built) mode (subst (λ (l : List TypedNode). PolicyNode l n mode) e p) over
-  unrefused-table (over-rows types s tables n h built mode p few over) u = absurd (at (u .types) (same-types s (u .sound)) (u .few-rows))
-    where
-      at : (types' : List TypedNode) → types ≡ types'
-          → ((tables : Tables) (n : ℕ) → n < nodeCount bytes → BuiltBefore bytes types' tables valueLimit rowLimit n → (mode : Mode)
-            → PolicyNode types' n mode → OverRows bytes n rowLimit → ⊥)
-          → ⊥
-      at types' e none =
-          none tables n h (subst (λ (l : List TypedNode). BuiltBefore bytes l tables valueLimit rowLimit n) e built) mode (subst (λ (l : List TypedNode). PolicyNode l n mode) e p) over
+  unrefused-table (over-values types s tables n h built mode p over) u = absurd (none-over s u .few-values tables n h built mode p over)
+  unrefused-table (over-rows types s tables n h built mode p few over) u = absurd (none-over s u .few-rows tables n h built mode p over)
   unrefused-table (compiled types s tables built mode last b) u = tt
 
   -- Whatever the answer to a sheet: it is a table exactly when none of the refusals 1 to 9 applies.

@@ -1,20 +1,19 @@
 -- A policy node over the rows of earlier nodes: the steps of its rule trip as its policy does, and lead to what it remembers.
 -- Assumes nothing.
-use mathlib.Core.Path.{_≡_, refl, sym, _∙_, ap}
-use mathlib.Core.Bool.{Bool, true, false}
+use mathlib.Core.Path.{_≡_, sym, _∙_, ap}
+use mathlib.Core.Bool.{Bool, false}
 use mathlib.Core.List.{List, [], _∷_, _++_}
 use Prim.Native.Nat.{ℕ, _≤_, _<_}
 use native.Mathlib.Omega.{arith}
-use Rattle.trace.specs.Trace.{Sequence, trip, go, run, trips}
+use Rattle.trace.specs.Trace.{Sequence, go, run, trips}
 use Rattle.trace.proofs.Laws.{sequence-append}
 use Rattle.trace.specs.declared.Mode.{Mode}
 use Rattle.policy.specs.Words.{Property}
-use Rattle.policy.specs.Rule.{Rule, onParts, ruleTrips, ruleOf}
-use Rattle.policy.specs.Parts.{AllParts}
+use Rattle.policy.specs.Rule.{Rule, onParts, ruleTrips}
 use Rattle.policy.specs.Trips.{tripsPolicy, Typed}
 use Rattle.policy.specs.Agree.{Agree}
 use Rattle.policy.specs.Lasting.{Lasting}
-use Rattle.policy.specs.Value.{Part, partTrips, remembered, start, stepOf}
+use Rattle.policy.specs.Value.{partTrips, start, stepOf}
 use Rattle.policy.specs.Closed.{Closed, Sound, answer}
 use Rattle.policy.proofs.Parts.{positive-on}
 use Rattle.policy.proofs.Rules.{rule-trips, policy-lasting}

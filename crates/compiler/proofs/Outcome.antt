@@ -8,7 +8,7 @@ use native.Mathlib.Omega.{arith}
 use Rattle.trace.specs.declared.Mode.{Mode}
 use Rattle.table.specs.Answer.{modeNumber}
 use Rattle.sheet.specs.Sheet.{actionCount, nodeCount}
-use Rattle.sheet.specs.Judge.{faulty, sound, judge, numberOf, spotOf}
+use Rattle.sheet.specs.Judge.{faulty, judge, numberOf, spotOf}
 use Rattle.sheet.specs.declared.TypedNode.{TypedNode}
 use Rattle.sheet.specs.declared.Fault.{Fault}
 use Rattle.compiler.specs.Nodes.{Tables}
@@ -16,6 +16,13 @@ use Rattle.compiler.specs.Limits.{OverValues, OverRows, Built}
 use Rattle.compiler.specs.Compiles.{Answer, table, refused, tableBytes, SoundSheet, PolicyNode, BuiltBefore, Compiles, faulted, over-values, over-rows, compiled}
 use Rattle.compiler.specs.SheetFacts.{SheetFacts, FactsOf}
 use Rattle.compiler.proofs.Unique.{rows-unique, few-rows-suffice, AgreeBefore, over-values-same}
+
+-- the checks 1 to 7 of a sheet have one outcome
+pub same-types : {bytes : List ℕ} {types other : List TypedNode} → SoundSheet bytes types → SoundSheet bytes other → types ≡ other
+same-types s t = cc (s .judged, t .judged)
+
+pub not-faulty : {bytes : List ℕ} {types : List TypedNode} → SoundSheet bytes types → (f : Fault) → judge bytes ≡ faulty f → ⊥
+not-faulty s f e = let z : _≡_ {A = ℕ} 0 1 = cc (s .judged) in omega arith
 
 module _ (bytes : List ℕ) (valueLimit rowLimit : ℕ) where
   -- node n is refused by number k
@@ -36,8 +43,8 @@ module _ (bytes : List ℕ) (valueLimit rowLimit : ℕ) where
   data Way (types : List TypedNode) : Answer → List ℕ → Type 0 where
     stops : {n k : ℕ} → StopsAt types n k → Way types (refused k n) []
     builds : (tables : Tables) → BuiltBefore bytes types tables valueLimit rowLimit (nodeCount bytes) → (mode : Mode)
-      → PolicyNode types (nodeCount bytes - 1) mode → (b : Built bytes tables valueLimit rowLimit (nodeCount bytes - 1))
-      → Way types (table (modeNumber mode) (actionCount bytes) (b .rows))
+        → PolicyNode types (nodeCount bytes - 1) mode → (b : Built bytes tables valueLimit rowLimit (nodeCount bytes - 1))
+        → Way types (table (modeNumber mode) (actionCount bytes) (b .rows))
         (tableBytes (modeNumber mode) (actionCount bytes) (b .rows) (tables (nodeCount bytes - 1)))
 
   data Case : Answer → List ℕ → Type 0 where
@@ -121,14 +128,10 @@ module _ (bytes : List ℕ) (valueLimit rowLimit : ℕ) where
     where
       same-fault : f ≡ g
       same-fault = cc
-
-  same-case facts (fault f e) (way types s w) = absurd (let z : _≡_ {A = ℕ} 0 1 = cc (s .judged) in omega arith)
-  same-case facts (way types s w) (fault f e) = absurd (let z : _≡_ {A = ℕ} 0 1 = cc (s .judged) in omega arith)
+  same-case facts (fault f e) (way types s w) = absurd (not-faulty s f e)
+  same-case facts (way types s w) (fault f e) = absurd (not-faulty s f e)
   same-case facts {x} {y} {t} {u} (way types s w) (way types' s' w') =
-      same-way types (facts types s) w (subst (λ (l : List TypedNode). Way l y u) same-types w')
-    where
-      same-types : types' ≡ types
-      same-types = cc (s .judged, s' .judged)
+      same-way types (facts types s) w (subst (λ (l : List TypedNode). Way l y u) (same-types s' s) w')
 
 -- The answer to a sheet, and its table, are determined by the sheet: what compiling gives is a function of the bytes and the limits.
 pub compiles-determined : (bytes : List ℕ) (valueLimit rowLimit : ℕ) → FactsOf bytes → {x y : Answer} {t u : List ℕ}

@@ -1,15 +1,14 @@
 -- A node's rows as a part: their moves stay among them, also for numbers that are no action's.
 -- Assumes nothing.
-use mathlib.Core.Path.{_≡_, sym, subst}
+use mathlib.Core.Path.{_≡_}
 use mathlib.Core.List.{List, [], _∷_}
 use Prim.Native.Nat.{ℕ, _+_, _*_, _≤_, _<_}
 use native.Mathlib.Decide.{ℕ-discrete, decLt}
 use native.Mathlib.Omega.{arith}
-use lib.ListN.{length, getD, List·getD-eq-default}
+use lib.ListN.{getD, List·getD-eq-default}
 use Rattle.trace.specs.Trace.{Move, trip, go, after, run}
 use Rattle.automaton.specs.Machine.{transition, entryMove, Machine}
 use Rattle.automaton.proofs.Entries.{mark-trips, other-goes}
-use Rattle.policy.specs.Value.{Part}
 use Rattle.policy.specs.Closed.{Below, Closed}
 
 module _ {rows actions : ℕ} {entries : List ℕ} (mc : Machine 255 rows actions entries) where

@@ -28,14 +28,18 @@ pub record InsideLimits (bytes : List ℕ) (valueLimit rowLimit : ℕ) : Type 0 
   pub tables : Tables
   pub built : BuiltBefore bytes types tables valueLimit rowLimit (nodeCount bytes)
 
--- None of the refusals 1 to 9 applies: checks 1 to 7 pass, and no policy node whose earlier ones are inside the limits is over one.
+-- No policy node whose earlier ones are inside the limits is over a limit.
+pub record NoneOver (bytes : List ℕ) (valueLimit rowLimit : ℕ) (types : List TypedNode) : Type 0 where
+  pub few-values : (tables : Tables) (n : ℕ) → n < nodeCount bytes → BuiltBefore bytes types tables valueLimit rowLimit n → (mode : Mode)
+      → PolicyNode types n mode → OverValues bytes tables n valueLimit → ⊥
+  pub few-rows : (tables : Tables) (n : ℕ) → n < nodeCount bytes → BuiltBefore bytes types tables valueLimit rowLimit n → (mode : Mode)
+      → PolicyNode types n mode → OverRows bytes n rowLimit → ⊥
+
+-- None of the refusals 1 to 9 applies: checks 1 to 7 pass, and no node is over a limit.
 pub record NoRefusal (bytes : List ℕ) (valueLimit rowLimit : ℕ) : Type 0 where
   pub types : List TypedNode
   pub sound : SoundSheet bytes types
-  pub few-values : (tables : Tables) (n : ℕ) → n < nodeCount bytes → BuiltBefore bytes types tables valueLimit rowLimit n → (mode : Mode)
-    → PolicyNode types n mode → OverValues bytes tables n valueLimit → ⊥
-  pub few-rows : (tables : Tables) (n : ℕ) → n < nodeCount bytes → BuiltBefore bytes types tables valueLimit rowLimit n → (mode : Mode)
-    → PolicyNode types n mode → OverRows bytes n rowLimit → ⊥
+  pub none : NoneOver bytes valueLimit rowLimit types
 
 -- An answer is a table.
 abbrev pub IsTable : Answer → Type 0
@@ -50,4 +54,4 @@ pub record OneActionList (bytes other : List ℕ) : Type 0 where
 -- The same finite sequences of actions satisfy the one's policy and the other's.
 pub record SameSatisfied (bytes other : List ℕ) : Type 0 where
   pub same : (w : List ℕ) → Sequence (actionCount bytes) w
-    → satisfies (propositionsOf bytes) (sheetPolicy bytes) w ≡ satisfies (propositionsOf other) (sheetPolicy other) w
+      → satisfies (propositionsOf bytes) (sheetPolicy bytes) w ≡ satisfies (propositionsOf other) (sheetPolicy other) w
