@@ -1,3 +1,5 @@
 pub mod Nodes
 pub mod Limits
 pub mod Compiles
+pub mod SheetFacts
+pub mod Demands
