@@ -18,7 +18,7 @@ use Rattle.table.specs.Answer.{modeNumber}
 use Rattle.sheet.specs.Sheet.{actionCount, nodeCount, propositionsOf}
 use Rattle.sheet.specs.Meaning.{sheetPolicy}
 use Rattle.sheet.specs.declared.TypedNode.{TypedNode}
-use Rattle.compiler.specs.Nodes.{Tables, tripsNode}
+use Rattle.lower.specs.Nodes.{Tables, tripsNode}
 use Rattle.compiler.specs.Limits.{Built}
 use Rattle.compiler.specs.Compiles.{table, tableBytes, PolicyNode, Compiles, compiled}
 use Rattle.compiler.specs.SheetFacts.{SheetFacts, FactsOf}

@@ -15,7 +15,7 @@ use Rattle.table.proofs.Verdicts.{equal-exactly-when-same-verdicts, accepted-ha
 use Rattle.sheet.specs.Sheet.{actionCount, nodeCount, propositionsOf}
 use Rattle.sheet.specs.Meaning.{sheetPolicy}
 use Rattle.sheet.specs.declared.TypedNode.{TypedNode}
-use Rattle.compiler.specs.Nodes.{Tables}
+use Rattle.lower.specs.Nodes.{Tables}
 use Rattle.compiler.specs.Limits.{OverValues, OverRows, Built}
 use Rattle.compiler.specs.Compiles.{Answer, table, tableBytes, SoundSheet, PolicyNode, BuiltBefore, Compiles, faulted, over-values, over-rows, compiled}
 use Rattle.compiler.specs.SheetFacts.{SheetFacts, FactsOf}

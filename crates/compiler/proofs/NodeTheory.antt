@@ -22,7 +22,7 @@ use Rattle.policy.proofs.Steps.{steps-right, steps-trip, step-right}
 use Rattle.sheet.specs.Sheet.{actionCount, nodeCount, propositionsOf}
 use Rattle.sheet.specs.Meaning.{nodePolicy}
 use Rattle.sheet.specs.declared.TypedNode.{TypedNode}
-use Rattle.compiler.specs.Nodes.{tripsNode, nodeRule, Tables, partOf, ruleOn, rememberedAt, NodeRows}
+use Rattle.lower.specs.Nodes.{tripsNode, nodeRule, Tables, partOf, ruleOn, rememberedAt, NodeRows}
 use Rattle.compiler.specs.Limits.{Built}
 use Rattle.compiler.specs.Compiles.{PolicyNode, BuiltBefore}
 use Rattle.compiler.specs.SheetFacts.{EarlierPolicy, NodeFacts, SheetFacts}

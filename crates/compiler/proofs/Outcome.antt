@@ -11,7 +11,7 @@ use Rattle.sheet.specs.Sheet.{actionCount, nodeCount}
 use Rattle.sheet.specs.Judge.{faulty, judge, numberOf, spotOf}
 use Rattle.sheet.specs.declared.TypedNode.{TypedNode}
 use Rattle.sheet.specs.declared.Fault.{Fault}
-use Rattle.compiler.specs.Nodes.{Tables}
+use Rattle.lower.specs.Nodes.{Tables}
 use Rattle.compiler.specs.Limits.{OverValues, OverRows, Built}
 use Rattle.compiler.specs.Compiles.{Answer, table, refused, tableBytes, SoundSheet, PolicyNode, BuiltBefore, Compiles, faulted, over-values, over-rows, compiled}
 use Rattle.compiler.specs.SheetFacts.{SheetFacts, FactsOf}

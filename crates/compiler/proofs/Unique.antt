@@ -17,7 +17,7 @@ use Rattle.policy.specs.Value.{Part, remembered}
 use Rattle.policy.specs.Closed.{Below}
 use Rattle.sheet.specs.Sheet.{actionCount, nodeCount}
 use Rattle.sheet.specs.declared.TypedNode.{TypedNode}
-use Rattle.compiler.specs.Nodes.{tripsNode, nodeRule, Tables, partOf, ruleOn, NodeRows}
+use Rattle.lower.specs.Nodes.{tripsNode, nodeRule, Tables, partOf, ruleOn, NodeRows}
 use Rattle.compiler.specs.Limits.{SameRow, Many, OverValues, OverRows}
 use Rattle.compiler.specs.Compiles.{PolicyNode}
 use Rattle.compiler.specs.SheetFacts.{EarlierPolicy, SheetFacts}

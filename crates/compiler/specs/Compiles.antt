@@ -13,7 +13,7 @@ use Rattle.sheet.specs.Judge.{Outcome, faulty, sound, judge, numberOf, spotOf}
 use Rattle.sheet.specs.declared.TypedNode.{TypedNode}
 use Rattle.sheet.specs.declared.Fault.{Fault}
 use Rattle.sheet.specs.declared.NodeType.the-variants.{Policy}
-use Rattle.compiler.specs.Nodes.{Tables}
+use Rattle.lower.specs.Nodes.{Tables}
 use Rattle.compiler.specs.Limits.{OverValues, OverRows, Built}
 use Rattle.compiler.specs.declared.Compiled.{Compiled}
 use Rattle.compiler.specs.declared.Compiled.the-variants.{Table, ShortArea, Faulty, TooManyValues, TooManyRows}

@@ -9,7 +9,7 @@ use Rattle.policy.specs.Policy.{satisfies}
 use Rattle.sheet.specs.Sheet.{actionCount, nodeCount, propositionsOf}
 use Rattle.sheet.specs.Meaning.{sheetPolicy}
 use Rattle.sheet.specs.declared.TypedNode.{TypedNode}
-use Rattle.compiler.specs.Nodes.{Tables}
+use Rattle.lower.specs.Nodes.{Tables}
 use Rattle.compiler.specs.Limits.{OverValues, OverRows}
 use Rattle.compiler.specs.Compiles.{Answer, table, refused, SoundSheet, PolicyNode, BuiltBefore, Compiles}
 

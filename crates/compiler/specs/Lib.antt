@@ -1,4 +1,3 @@
-pub mod Nodes
 pub mod Limits
 pub mod Compiles
 pub mod SheetFacts

@@ -6,7 +6,7 @@ use mathlib.Core.List.{List, _++_}
 use Prim.Native.Nat.{ℕ, _≤_, _<_}
 use Rattle.trace.specs.Trace.{Sequence}
 use Rattle.sheet.specs.Sheet.{actionCount}
-use Rattle.compiler.specs.Nodes.{tripsNode, Tables, rememberedAt, NodeRows}
+use Rattle.lower.specs.Nodes.{tripsNode, Tables, rememberedAt, NodeRows}
 
 -- Two sequences share a row: every continuation trips after both or after neither.
 pub record SameRow (bytes : List ℕ) (n : ℕ) (u w : List ℕ) : Type 0 where

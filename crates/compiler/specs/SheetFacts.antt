@@ -16,7 +16,7 @@ use Rattle.sheet.specs.Meaning.{nodePolicy}
 use Rattle.sheet.specs.declared.TypedNode.{TypedNode}
 use Rattle.sheet.specs.declared.Node.{Node}
 use Rattle.sheet.specs.declared.NodeRead.the-variants.{Read}
-use Rattle.compiler.specs.Nodes.{nodeRule}
+use Rattle.lower.specs.Nodes.{nodeRule}
 use Rattle.compiler.specs.Compiles.{SoundSheet, PolicyNode}
 
 -- A part of node n: a policy node before it.
