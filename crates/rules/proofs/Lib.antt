@@ -1,3 +1,5 @@
 pub mod Encoding
 pub mod Fitting
 pub mod Slots
+pub mod Lowest
+pub mod Moves

@@ -10,11 +10,7 @@ pub fn entry_at(work: &[u8], i: usize, k: usize) -> u8
     requires { ⌜ (65536 ≤ length (now work)) × (i < 64) ⌝ }
     ensures { λ r. ⌜ r ≡ getD (slotAt (now (work .entry)) i) k 255 ⌝ }
 {
-    if k < 1024 {
-        work[i * 1024 + k]
-    } else {
-        255
-    }
+    if k < 1024 { work[i * 1024 + k] } else { 255 }
 }
 
 // Where an action leads from a row of node i.
