@@ -3,3 +3,4 @@ pub mod Fitting
 pub mod Slots
 pub mod Lowest
 pub mod Moves
+pub mod Stepping

@@ -22,8 +22,9 @@ use Rattle.rules.specs.declared.Rule.{Rule}
 slot-end : (work : List ℕ) (i k : ℕ) → 1024 ≤ k → getD (slotAt work i) k 255 ≡ 255
 slot-end work i k h = List·getD-eq-default (slotAt work i) 255 (simp length-take (omega arith))
 
-below : (n e : ℕ) → ((e ≡ 255 → ⊥) → e < n) → Below n (entryMove 255 e)
-below n e h = by (eqb e 255) refl
+-- an entry that is a row below n, or the mark
+pub entry-below : (n e : ℕ) → ((e ≡ 255 → ⊥) → e < n) → Below n (entryMove 255 e)
+entry-below n e h = by (eqb e 255) refl
   where
     by : (b : Bool) → eqb e 255 ≡ b → Below n (entryMove 255 e)
     by true p = rw p tt
@@ -33,10 +34,10 @@ module _ (work : List ℕ) (i n : ℕ) (pos : 0 < n) (few : n ≤ 64) where
   -- a slot whose entries are rows below n or trips
   module _ (entries : (k : ℕ) → (getD (slotAt work i) k 255 ≡ 255 → ⊥) → getD (slotAt work i) k 255 < n) where
     pub slot-closed : (actions : ℕ) → Closed n (partAt actions work i)
-    slot-closed actions = record { pos = pos; few = few; stay = λ r a h. below n (getD (slotAt work i) (r * actions + a) 255) (entries (r * actions + a)) }
+    slot-closed actions = record { pos = pos; few = few; stay = λ r a h. entry-below n (getD (slotAt work i) (r * actions + a) 255) (entries (r * actions + a)) }
 
     pub slot-readable : i < 64 → Readable work i
-    slot-readable g = record { node = g; entries = λ k h. let below = entries k h in omega arith }
+    slot-readable h = record { node = h; entries = λ k r. let g = entries k r in omega arith }
 
   -- n rows and then zeros have such entries
   pub rows-entries : (actions : ℕ)

@@ -8,6 +8,7 @@ ghost use mathlib.Core.Path.{_≡_};
 ghost use Prim.Native.Nat.{_+_, _≤_, _<_};
 ghost use lib.ListN.{length};
 ghost use Rattle.trace.specs.Trace.{after};
+ghost use Rattle.policy.specs.Closed.{Below};
 ghost use Rattle.policy.specs.Formula.{bit};
 ghost use Rattle.policy.specs.Rule.{opening, counting};
 ghost use Rattle.policy.specs.Value.{goWith};
@@ -63,6 +64,14 @@ fn counting_step(k: usize, value: u64, action: usize) -> Moved
     }
 }
 
+// Where an action leads from a row that a byte names: to a row below 64, or a trip.
+fn row_move(work: &[u8], actions: usize, i: usize, row: u64, action: usize) -> Moved
+    requires { ⌜ (65536 ≤ length (now work)) × Readable (now work) i × (actions ≤ 16) × (action < actions) × (row < 256) ⌝ }
+    ensures { λ r. ⌜ (moveOf r ≡ partAt actions (now (work .entry)) i row action) × Below 64 (moveOf r) ⌝ }
+{
+    part_move(work, actions, i, row as usize, action)
+}
+
 // A part's row or trip behind an action, as a byte: a part that has tripped stays so.
 fn place_after(work: &[u8], actions: usize, i: usize, place: u64, action: usize) -> u8
     requires { ⌜ (65536 ≤ length (now work)) × (i < 64) × (actions ≤ 16) × (action < actions) × (place < 256) ⌝ }
@@ -111,9 +120,9 @@ fn until_step(work: &[u8], actions: usize, i: usize, j: usize, value: u64, actio
     if value == 65535 {
         return Moved::Go(65535);
     }
-    match part_move(work, actions, j, (value % 256) as usize, action) {
+    match row_move(work, actions, j, value % 256, action) {
         Moved::Trip => Moved::Trip,
-        Moved::Go(r) => match part_move(work, actions, i, (value / 256 % 256) as usize, action) {
+        Moved::Go(r) => match row_move(work, actions, i, value / 256 % 256, action) {
             Moved::Trip => Moved::Go(65535),
             Moved::Go(q) => Moved::Go(q * 256 + r),
         },
@@ -125,7 +134,7 @@ fn marked_move(work: &[u8], actions: usize, i: usize, mark: u64, row: u64, actio
     requires { ⌜ (65536 ≤ length (now work)) × Readable (now work) i × (actions ≤ 16) × (action < actions) × (mark ≤ 131072) × (row < 256) ⌝ }
     ensures { λ r. ⌜ moveOf r ≡ goWith (λ q. mark + q) (partAt actions (now (work .entry)) i row action) ⌝ }
 {
-    match part_move(work, actions, i, row as usize, action) {
+    match row_move(work, actions, i, row, action) {
         Moved::Trip => Moved::Trip,
         Moved::Go(r) => Moved::Go(mark + r),
     }
@@ -140,7 +149,7 @@ fn then_step(work: &[u8], actions: usize, i: usize, j: usize, value: u64, action
     if value / 256 % 256 != 0 {
         return marked_move(work, actions, j, 256, row, action);
     }
-    match part_move(work, actions, i, row as usize, action) {
+    match row_move(work, actions, i, row, action) {
         Moved::Trip => Moved::Go(256),
         Moved::Go(q) => Moved::Go(q),
     }
@@ -158,13 +167,14 @@ fn timed_step(work: &[u8], actions: usize, k: usize, i: usize, j: usize, l: usiz
     if phase != 0 {
         return marked_move(work, actions, l, 131072, low, action);
     }
-    match part_move(work, actions, i, (value / 256 % 256) as usize, action) {
+    match row_move(work, actions, i, value / 256 % 256, action) {
         Moved::Trip => Moved::Go(65536),
         Moved::Go(q) => {
-            if k as u64 <= low + 1 {
+            let sofar = low + 1;
+            if k as u64 <= sofar {
                 Moved::Go(131072)
             } else {
-                Moved::Go(q * 256 + low + 1)
+                Moved::Go(q * 256 + sofar)
             }
         }
     }
@@ -178,7 +188,7 @@ fn filtered_step(work: &[u8], actions: usize, set: u16, i: usize, value: u64, ac
     if in_set(set, action) {
         return Moved::Go(row);
     }
-    part_move(work, actions, i, row as usize, action)
+    row_move(work, actions, i, row, action)
 }
 
 // Where an action leads from a remembered value.
@@ -189,7 +199,7 @@ pub fn step(rule: Rule, work: &[u8], actions: usize, value: u64, action: usize) 
     match rule {
         Rule::Opening(set) => opening_step(set, value, action),
         Rule::Counting(k) => counting_step(k, value, action),
-        Rule::Same(i) => part_move(work, actions, i, (value % 256) as usize, action),
+        Rule::Same(i) => row_move(work, actions, i, value % 256, action),
         Rule::Both(i, j) => both_step(work, actions, i, j, value, action),
         Rule::Either(i, j) => either_step(work, actions, i, j, value, action),
         Rule::Copied(i) => move_all(work, actions, i, value, action),

@@ -1,25 +1,22 @@
+-- `rules::steps::opening_step` meets its contract: a fresh value trips on an action of the set, and any other is spent.
+-- Assumes nothing.
+use mathlib.Core.Path.{_∙_, sym}
 use borrow.Author.Needs.{needs}
+use borrow.Author.Tests.{eq-eqb, ne-eqb}
 use Rattle.rules.proofs.steps.opening_step.Statement.{statement}
 use Rattle.rules.proofs.steps.opening_step.Tie as tie
-use Rattle.rules.proofs.steps.opening_step.Reads as reads
-use Rattle.rules.proofs.steps.opening_step.Lts as lts
-use Rattle.rules.proofs.steps.in_set.Reads as in-set-reads
 
--- src/steps.rt:48:12
 in-set-requires : tie.Need-in-set-requires
 in-set-requires c κs = search needs
 
--- src/steps.rt:49:13
 returns : tie.Need-returns
-returns c = ?
+returns c = rw (eq-eqb _ 0 (c .before .before .if1 .taken), sym (c .before .in-set .ensures) ∙ c .if2 .taken)
 
--- src/steps.rt:43:1
 returns-2 : tie.Need-returns-2
-returns-2 c = ?
+returns-2 c = rw (eq-eqb _ 0 (c .before .before .if1 .taken), sym (c .before .in-set .ensures) ∙ c .if2 .left)
 
--- src/steps.rt:43:1
 returns-3 : tie.Need-returns-3
-returns-3 c = ?
+returns-3 c = rw (ne-eqb _ 0 (c .if1 .left))
 
 pub opening-step-spec : {M : Type 1} → statement M
 opening-step-spec = tie.close (tie.spec in-set-requires returns returns-2 returns-3)

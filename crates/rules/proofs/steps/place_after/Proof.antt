@@ -1,29 +1,30 @@
+-- `rules::steps::place_after` meets its contract: a trip stays, and a row's entry is the next place.
+-- Assumes nothing.
+use native.Mathlib.Omega.{arith}
 use borrow.Author.Needs.{needs}
+use borrow.Author.Tests.{eq-eqb, ne-eqb}
+use Rattle.rules.proofs.Stepping.{index, entry-place}
 use Rattle.rules.proofs.steps.place_after.Statement.{statement}
 use Rattle.rules.proofs.steps.place_after.Tie as tie
-use Rattle.rules.proofs.steps.place_after.Reads as reads
-use Rattle.rules.proofs.steps.place_after.Lts as lts
-use Rattle.rules.proofs.parts.entry_at.Reads as entry-at-reads
 
--- src/steps.rt:72:9
 returns : tie.Need-returns
-returns c = ?
+returns c = rw (eq-eqb _ 255 (c .if1 .taken))
 
--- src/steps.rt:74:23
 mul-entry-at : tie.Need-mul-entry-at
-mul-entry-at c = ?
+mul-entry-at c =
+    let a = c .before .before .args in
+    omega (arith, index (a .place) (a .actions) (a .action) (omega arith) (omega arith) (omega arith))
 
--- src/steps.rt:74:23
 add-entry-at : tie.Need-add-entry-at
-add-entry-at c = ?
+add-entry-at c =
+    let a = c .before .before .args in
+    omega (arith, index (a .place) (a .actions) (a .action) (omega arith) (omega arith) (omega arith))
 
--- src/steps.rt:74:5
 entry-at-requires : tie.Need-entry-at-requires
 entry-at-requires c κs = search needs
 
--- src/steps.rt:67:1
 returns-2 : tie.Need-returns-2
-returns-2 c = ?
+returns-2 c = rw (ne-eqb _ 255 (c .before .if1 .left), ← c .entry-at .ensures) (entry-place (c .entry-at .result))
 
 pub place-after-spec : {M : Type 1} → statement M
 place-after-spec =

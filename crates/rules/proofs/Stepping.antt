@@ -1,0 +1,87 @@
+-- Laws that the proofs of the steps share: where a row's entry stands, what a byte says of a part, and the pairs of two bytes.
+-- Assumes nothing.
+use mathlib.Core.Path.{_≡_, refl, sym}
+use mathlib.Core.Bool.{Bool, true, false}
+use mathlib.Core.List.{List}
+use Prim.Native.Nat.{ℕ, _+_, _*_, _≤_, _<_}
+use native.Mathlib.Decide.{ℕ-discrete}
+use native.Mathlib.Omega.{arith}
+use lib.Arith.{digits-lt}
+use lib.Dec.{eqb}
+use lib.ListN.{getD}
+use borrow.Author.Tests.{eq-eqb, ne-eqb, eqb-true, eqb-false}
+use Rattle.trace.specs.Trace.{Move, trip, go}
+use Rattle.automaton.specs.Machine.{moveBy, entryMove}
+use Rattle.policy.specs.Rule.{counting, both, either, then, timed}
+use Rattle.policy.specs.Closed.{Below}
+use Rattle.policy.specs.Value.{Part, marked, kept, missed, bothMove, eitherMove, goWith}
+use Rattle.rules.specs.Codes.{placeCode, placeBy, codePlace}
+use Rattle.rules.specs.Rules.{slotAt, partAt, Readable}
+use Rattle.rules.specs.Steps.{encodeMove}
+use Rattle.rules.proofs.Slots.{entry-below}
+
+-- the entry of a row that a byte names
+pub index : (row actions action : ℕ) → row < 256 → actions ≤ 16 → action < actions → row * actions + action < 4096
+index row actions action g h i = let l = digits-lt g i in omega arith
+
+-- an entry is a place
+pub entry-place : (e : ℕ) → codePlace e ≡ entryMove 255 e
+entry-place e = by (eqb e 255)
+  where
+    by : (b : Bool) → placeBy b e ≡ moveBy b e
+    by true = refl
+    by false = refl
+
+-- a part that can be read moves to rows below 64
+pub part-below : (work : List ℕ) (i : ℕ) → Readable work i → (actions q a : ℕ) → Below 64 (partAt actions work i q a)
+part-below work i readable actions q a = entry-below 64 (getD (slotAt work i) (q * actions + a) 255) (readable .entries (q * actions + a))
+
+pub place-code : (e : ℕ) → placeCode (codePlace e) ≡ e
+place-code e = by (eqb e 255) refl
+  where
+    by : (b : Bool) → eqb e 255 ≡ b → placeCode (codePlace e) ≡ e
+    by true p = rw p (sym (eqb-true e 255 p))
+    by false p = rw p
+
+-- The number of a move does not depend on the rule's parts: a part that always trips stands for any.
+abbrev any : Part
+any q a = trip
+
+-- two places: both trip where they are the last pair, and either trips where one is the last byte
+module _ (l r : ℕ) where
+  pub both-trip : l < 256 → r < 256 → l * 256 + r ≡ 65535 → trip ≡ encodeMove (both any any) (bothMove (codePlace l) (codePlace r))
+  both-trip h i e = rw (eq-eqb l 255 (omega arith), eq-eqb r 255 (omega arith))
+
+  pub both-goes : (l * 256 + r ≡ 65535 → ⊥) → go (l * 256 + r) ≡ encodeMove (both any any) (bothMove (codePlace l) (codePlace r))
+  both-goes h = elim (ℕ-discrete l 255) [ yes p ↦ tripped p | no q ↦ rw (ne-eqb l 255 q, place-code r) ]
+    where
+      tripped : l ≡ 255 → go (l * 256 + r) ≡ encodeMove (both any any) (bothMove (codePlace l) (codePlace r))
+      tripped p = rw (eq-eqb l 255 p, ne-eqb r 255 (omega arith), p)
+
+  pub either-left : l ≡ 255 → trip ≡ encodeMove (either any any) (eitherMove (codePlace l) (codePlace r))
+  either-left e = rw (eq-eqb l 255 e)
+
+  pub either-right : (l ≡ 255 → ⊥) → r ≡ 255 → trip ≡ encodeMove (either any any) (eitherMove (codePlace l) (codePlace r))
+  either-right h e = rw (ne-eqb l 255 h, eq-eqb r 255 e)
+
+  pub either-goes : (l ≡ 255 → ⊥) → (r ≡ 255 → ⊥)
+      → go (l * 256 + r) ≡ encodeMove (either any any) (eitherMove (codePlace l) (codePlace r))
+  either-goes h i = rw (ne-eqb l 255 h, ne-eqb r 255 i)
+
+-- a count, a row or a set is its own number: the same equation for counting, same, copied and filtered
+pub plain : (m : Move ℕ) → m ≡ encodeMove (counting 0) m
+plain trip = refl
+plain (go v) = refl
+
+-- a part's row under the mark of then and of timed
+pub marked-code : (m : Move ℕ) → goWith (λ q. 256 + q) m ≡ encodeMove (then any any) (goWith marked m)
+marked-code trip = refl
+marked-code (go r) = refl
+
+pub kept-code : (k : ℕ) (m : Move ℕ) → goWith (λ q. 65536 + q) m ≡ encodeMove (timed k any any any) (goWith kept m)
+kept-code k trip = refl
+kept-code k (go r) = refl
+
+pub missed-code : (k : ℕ) (m : Move ℕ) → goWith (λ q. 131072 + q) m ≡ encodeMove (timed k any any any) (goWith missed m)
+missed-code k trip = refl
+missed-code k (go r) = refl
