@@ -52,14 +52,14 @@ begins f set a (suc n) = by (bit set n) (begins f set a n)
 -- the whole.
 pub record Moving (f : Part) (n set a moved rest : ℕ) : Type 0 where
   pub fits : rest < 2 ^ n
-  pub begun : insert 0 moved ≡ moved
+  pub fresh : insert 0 moved ≡ moved
   pub whole : moveBelow f set a n ≡ carry moved (moveBelow f rest a n)
 
 -- all rows are left
-pub first : {f : Part} {n set a : ℕ} → set < 2 ^ n → Moving f n set a 1 set
-first {f} {n} {set} {a} h = record { fits = h; begun = refl; whole = sym (begins f set a n) }
+pub begun : {f : Part} {n set a : ℕ} → set < 2 ^ n → Moving f n set a 1 set
+begun {f} {n} {set} {a} h = record { fits = h; fresh = refl; whole = sym (begins f set a n) }
 
-module _ (f : Part) (n set a moved rest : ℕ) (m : Moving f n set a moved rest) (h : 0 < rest) where
+module _ {f : Part} {n set a moved rest : ℕ} (m : Moving f n set a moved rest) (h : 0 < rest) where
   -- the lowest row left is one of n
   pub row-below : trailingZeros n rest < n
   row-below = lowest n rest h (m .fits) .0
@@ -72,18 +72,18 @@ module _ (f : Part) (n set a moved rest : ℕ) (m : Moving f n set a moved rest)
       ∙ ap (carry moved) (move-insert f a (trailingZeros n rest) (cleared rest) n row-below)
 
   -- its copy moves to row r
-  pub next : (r : ℕ) → f (trailingZeros n rest) a ≡ go r → Moving f n set a (insert r moved) (cleared rest)
-  next r e =
+  pub gone : {r : ℕ} → f (trailingZeros n rest) a ≡ go r → Moving f n set a (insert r moved) (cleared rest)
+  gone {r} e =
       record {
         fits = omega (arith, m .fits, and-le-l rest (rest - 1));
-        begun = insert-comm 0 r moved ∙ rw (m .begun);
-        whole = split ∙ rw e (carry-insert r moved (moveBelow f (cleared rest) a n))
+        fresh = insert-comm 0 r moved ∙ rw (m .fresh);
+        whole = split ∙ rw e (carry-insert r moved (moveBelow f (cleared rest) a n));
       }
 
   -- its copy trips
-  pub trips : f (trailingZeros n rest) a ≡ trip → moveBelow f set a n ≡ trip
-  trips e = split ∙ rw e
+  pub tripped : f (trailingZeros n rest) a ≡ trip → moveBelow f set a n ≡ trip
+  tripped e = split ∙ rw e
 
 -- no row is left
-pub last : (f : Part) (n set a moved : ℕ) → Moving f n set a moved 0 → moveBelow f set a n ≡ go moved
-last f n set a moved m = m .whole ∙ rw (move-empty f a n) (ap go (m .begun))
+pub ended : {f : Part} {n set a moved rest : ℕ} → Moving f n set a moved rest → rest ≡ 0 → moveBelow f set a n ≡ go moved
+ended {f} {n} {a = a} m e = m .whole ∙ rw (e, move-empty f a n) (ap go (m .fresh))

@@ -9,8 +9,6 @@ use lib.Pow.{shl-exact}
 use borrow.Author.Needs.{needs}
 use Rattle.rules.proofs.sets.with_row.Statement.{statement}
 use Rattle.rules.proofs.sets.with_row.Tie as tie
-use Rattle.rules.proofs.sets.with_row.Reads as reads
-use Rattle.rules.proofs.sets.with_row.Lts as lts
 
 shifted : (row : ℕ) → row < 64 → (1 * 2 ^ row) % 2 ^ 64 ≡ 2 ^ row
 shifted row h = shl-exact 1 row 64 (omega arith) (omega arith) ∙ one-mul (2 ^ row)
