@@ -36,6 +36,7 @@ odd n e = sym (rw (halves, or-step (n / 2 * 2) 1, half (n / 2), or-zero-r (n / 2
         let same : (n - 1) / 2 ≡ n / 2 = omega arith in
         and-step n (n - 1) ∙ rw (same, and-self (n / 2)) (omega arith)
 
+-- a set is its lowest row and the set without it
 pub lowest : (k n : ℕ) → 0 < n → n < 2 ^ k → (trailingZeros k n < k) × (n ≡ insert (trailingZeros k n) (cleared n))
 unfolding trailingZeros
 lowest zero n h g = absurd (omega arith)

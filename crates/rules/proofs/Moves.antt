@@ -1,8 +1,8 @@
--- All copies moved row by row, in any order: what is moved so far, with the copies that are left.
+-- All copies moved one by one, from the lowest row left.
 -- Assumes nothing.
 use mathlib.Core.Path.{_≡_, refl, sym, _∙_, ap}
 use mathlib.Core.Bool.{Bool, true, false, cond, _||_}
-use Prim.Native.Nat.{ℕ, zero, suc, _-_, _^_, _≤_, _<_}
+use Prim.Native.Nat.{ℕ, zero, suc, _-_, _^_, _<_}
 use native.Mathlib.Omega.{arith}
 use lib.Bits.{bitOr, or-comm, and-le-l}
 use lib.Count.{trailingZeros}
@@ -38,50 +38,52 @@ carry-insert : (r s : ℕ) (m : Move ℕ) → carry s (join (go r) m) ≡ carry 
 carry-insert r s trip = refl
 carry-insert r s (go t) = ap go (rw (or-comm t (2 ^ r)) (or-assoc s (2 ^ r) t))
 
--- Copies of a part in rows below n, moved by an action: rows moved so far, and rows left.
-module _ (f : Part) (n set a : ℕ) where
-  pub record Moving (moved rest : ℕ) : Type 0 where
-    pub fits : rest < 2 ^ n
-    pub begun : insert 0 moved ≡ moved
-    pub whole : moveBelow f set a n ≡ carry moved (moveBelow f rest a n)
+-- a copy beginning now is among those moved
+begins : (f : Part) (set a n : ℕ) → carry 1 (moveBelow f set a n) ≡ moveBelow f set a n
+begins f set a zero = refl
+begins f set a (suc n) = by (bit set n) (begins f set a n)
+  where
+    by : (b : Bool) → carry 1 (moveBelow f set a n) ≡ moveBelow f set a n
+        → carry 1 (cond b (join (f n a) (moveBelow f set a n)) (moveBelow f set a n)) ≡ cond b (join (f n a) (moveBelow f set a n)) (moveBelow f set a n)
+    by true ih = carry-join 1 (f n a) (moveBelow f set a n) ∙ rw ih
+    by false ih = ih
 
-  -- a copy beginning now is among those moved
-  begins : (k : ℕ) → carry 1 (moveBelow f set a k) ≡ moveBelow f set a k
-  begins zero = refl
-  begins (suc k) = by (bit set k) (begins k)
-    where
-      by : (b : Bool) → carry 1 (moveBelow f set a k) ≡ moveBelow f set a k
-          → carry 1 (cond b (join (f k a) (moveBelow f set a k)) (moveBelow f set a k)) ≡ cond b (join (f k a) (moveBelow f set a k)) (moveBelow f set a k)
-      by true ih = carry-join 1 (f k a) (moveBelow f set a k) ∙ rw ih
-      by false ih = ih
+-- The copies of a set of rows below n, moved by an action: the rows moved to so far with a copy beginning now, and the rows left, make up
+-- the whole.
+pub record Moving (f : Part) (n set a moved rest : ℕ) : Type 0 where
+  pub fits : rest < 2 ^ n
+  pub fresh : insert 0 moved ≡ moved
+  pub whole : moveBelow f set a n ≡ carry moved (moveBelow f rest a n)
 
-  pub first : set < 2 ^ n → Moving 1 set
-  first h = record { fits = h; begun = refl; whole = sym (begins n) }
+-- all rows are left
+pub begun : {f : Part} {n set a : ℕ} → set < 2 ^ n → Moving f n set a 1 set
+begun {f} {n} {set} {a} h = record { fits = h; fresh = refl; whole = sym (begins f set a n) }
 
-  module _ {moved rest : ℕ} (m : Moving moved rest) (h : 0 < rest) where
-    -- the lowest row left is one of n
-    pub row-below : trailingZeros n rest < n
-    row-below = lowest n rest h (m .fits) .0
+module _ {f : Part} {n set a moved rest : ℕ} (m : Moving f n set a moved rest) (h : 0 < rest) where
+  -- the lowest row left is one of n
+  pub row-below : trailingZeros n rest < n
+  row-below = lowest n rest h (m .fits) .0
 
-    -- the copies left are its copy and those in higher rows
-    split : moveBelow f set a n ≡ carry moved (join (f (trailingZeros n rest) a) (moveBelow f (cleared rest) a n))
-    split =
-        m .whole
-        ∙ ap (λ (s : ℕ). carry moved (moveBelow f s a n)) (lowest n rest h (m .fits) .1)
-        ∙ ap (carry moved) (move-insert f a (trailingZeros n rest) (cleared rest) n row-below)
+  -- the copies left are its copy and those in higher rows
+  split : moveBelow f set a n ≡ carry moved (join (f (trailingZeros n rest) a) (moveBelow f (cleared rest) a n))
+  split =
+      m .whole
+      ∙ ap (λ (s : ℕ). carry moved (moveBelow f s a n)) (lowest n rest h (m .fits) .1)
+      ∙ ap (carry moved) (move-insert f a (trailingZeros n rest) (cleared rest) n row-below)
 
-    -- its copy moved to row r, or tripping
-    pub next : (r : ℕ) → f (trailingZeros n rest) a ≡ go r → Moving (insert r moved) (cleared rest)
-    next r e =
-        record {
-          fits = omega (arith, m .fits, and-le-l rest (rest - 1));
-          begun = insert-comm 0 r moved ∙ rw (m .begun);
-          whole = split ∙ rw e (carry-insert r moved (moveBelow f (cleared rest) a n))
-        }
+  -- its copy moves to row r
+  pub gone : {r : ℕ} → f (trailingZeros n rest) a ≡ go r → Moving f n set a (insert r moved) (cleared rest)
+  gone {r} e =
+      record {
+        fits = omega (arith, m .fits, and-le-l rest (rest - 1));
+        fresh = insert-comm 0 r moved ∙ rw (m .fresh);
+        whole = split ∙ rw e (carry-insert r moved (moveBelow f (cleared rest) a n));
+      }
 
-    pub trips : f (trailingZeros n rest) a ≡ trip → moveBelow f set a n ≡ trip
-    trips e = split ∙ rw e
+  -- its copy trips
+  pub tripped : f (trailingZeros n rest) a ≡ trip → moveBelow f set a n ≡ trip
+  tripped e = split ∙ rw e
 
-  -- no row is left
-  pub last : {moved : ℕ} → Moving moved 0 → moveBelow f set a n ≡ go moved
-  last {moved} m = m .whole ∙ rw (move-empty f a n) (ap go (m .begun))
+-- no row is left
+pub ended : {f : Part} {n set a moved rest : ℕ} → Moving f n set a moved rest → rest ≡ 0 → moveBelow f set a n ≡ go moved
+ended {f} {n} {a = a} m e = m .whole ∙ rw (e, move-empty f a n) (ap go (m .fresh))

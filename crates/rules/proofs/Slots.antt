@@ -1,34 +1,23 @@
 -- The rows in a slot of the work area are a machine that is closed and can be read, and a rule over such slots fits.
 -- Assumes nothing.
-use mathlib.Core.Path.{_≡_, refl}
-use mathlib.Core.Bool.{Bool, true, false}
+use mathlib.Core.Path.{_≡_}
 use mathlib.Core.List.{List}
 use Prim.Native.Nat.{ℕ, _+_, _*_, _≤_, _<_}
 use native.Mathlib.Decide.{decLt}
 use native.Mathlib.Omega.{arith}
-use lib.Dec.{eqb}
 use lib.ListN.{length, getD, drop, length-take, List·getD-eq-default}
-use borrow.Author.Tests.{eqb-false}
-use Rattle.automaton.specs.Machine.{entryMove}
 use Rattle.policy.specs.Rule.{opening, counting, same, both, either, copied, until, then, timed, filtered, onParts}
 use Rattle.policy.specs.Rule as P
 use Rattle.policy.specs.Parts.{AllParts}
-use Rattle.policy.specs.Closed.{Below, Closed}
+use Rattle.policy.specs.Closed.{Closed}
 use Rattle.rules.specs.Codes.{CountFits, FitRule}
 use Rattle.rules.specs.Rules.{slotAt, partAt, ruleOver, machineRule, Readable}
 use Rattle.rules.specs.declared.Rule.{Rule}
+use Rattle.rules.proofs.Reading.{entry-below}
 
 -- a slot has no entry past its 1,024 bytes
 slot-end : (work : List ℕ) (i k : ℕ) → 1024 ≤ k → getD (slotAt work i) k 255 ≡ 255
 slot-end work i k h = List·getD-eq-default (slotAt work i) 255 (simp length-take (omega arith))
-
--- an entry that is a row below n, or the mark
-pub entry-below : (n e : ℕ) → ((e ≡ 255 → ⊥) → e < n) → Below n (entryMove 255 e)
-entry-below n e h = by (eqb e 255) refl
-  where
-    by : (b : Bool) → eqb e 255 ≡ b → Below n (entryMove 255 e)
-    by true p = rw p tt
-    by false p = rw p (h (eqb-false e 255 p))
 
 module _ (work : List ℕ) (i n : ℕ) (pos : 0 < n) (few : n ≤ 64) where
   -- a slot whose entries are rows below n or trips

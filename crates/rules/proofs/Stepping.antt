@@ -1,28 +1,18 @@
--- Laws that the proofs of the steps share: where a row's entry stands, what a byte says of a part, and the pairs of two bytes.
+-- Laws that the proofs of the steps share: what a byte says of a part, the pairs of two bytes, and the numbers of moves.
 -- Assumes nothing.
 use mathlib.Core.Path.{_≡_, refl, sym}
 use mathlib.Core.Bool.{Bool, true, false}
-use mathlib.Core.List.{List}
-use Prim.Native.Nat.{ℕ, _+_, _*_, _≤_, _<_}
+use Prim.Native.Nat.{ℕ, _+_, _*_, _<_}
 use native.Mathlib.Decide.{ℕ-discrete}
 use native.Mathlib.Omega.{arith}
-use lib.Arith.{digits-lt}
 use lib.Dec.{eqb}
-use lib.ListN.{getD}
-use borrow.Author.Tests.{eq-eqb, ne-eqb, eqb-true, eqb-false}
+use borrow.Author.Tests.{eq-eqb, ne-eqb, eqb-true}
 use Rattle.trace.specs.Trace.{Move, trip, go}
 use Rattle.automaton.specs.Machine.{moveBy, entryMove}
 use Rattle.policy.specs.Rule.{counting, both, either, then, timed}
-use Rattle.policy.specs.Closed.{Below}
 use Rattle.policy.specs.Value.{Part, marked, kept, missed, bothMove, eitherMove, goWith}
 use Rattle.rules.specs.Codes.{placeCode, placeBy, codePlace}
-use Rattle.rules.specs.Rules.{slotAt, partAt, Readable}
 use Rattle.rules.specs.Steps.{encodeMove}
-use Rattle.rules.proofs.Slots.{entry-below}
-
--- the entry of a row that a byte names
-pub index : (row actions action : ℕ) → row < 256 → actions ≤ 16 → action < actions → row * actions + action < 4096
-index row actions action g h i = let l = digits-lt g i in omega arith
 
 -- an entry is a place
 pub entry-place : (e : ℕ) → codePlace e ≡ entryMove 255 e
@@ -31,10 +21,6 @@ entry-place e = by (eqb e 255)
     by : (b : Bool) → placeBy b e ≡ moveBy b e
     by true = refl
     by false = refl
-
--- a part that can be read moves to rows below 64
-pub part-below : (work : List ℕ) (i : ℕ) → Readable work i → (actions q a : ℕ) → Below 64 (partAt actions work i q a)
-part-below work i readable actions q a = entry-below 64 (getD (slotAt work i) (q * actions + a) 255) (readable .entries (q * actions + a))
 
 pub place-code : (e : ℕ) → placeCode (codePlace e) ≡ e
 place-code e = by (eqb e 255) refl

@@ -3,7 +3,7 @@ use crate::Moved;
 ghost use mathlib.Core.Path.{_≡_};
 ghost use Prim.Native.Nat.{_*_, _+_, _≤_, _<_};
 ghost use lib.ListN.{length, getD};
-ghost use Rattle.rules.specs.Rules.{slotAt, partAt, moveOf, Readable};
+ghost use Rattle.rules.specs.Rules.{slotAt, partAt, moveOf};
 
 // Entry k of the rows of node i, 255 where there is none.
 pub fn entry_at(work: &[u8], i: usize, k: usize) -> u8

@@ -3,7 +3,8 @@
 use native.Mathlib.Omega.{arith}
 use borrow.Author.Needs.{needs}
 use borrow.Author.Tests.{eq-eqb, ne-eqb}
-use Rattle.rules.proofs.Stepping.{index, entry-place}
+use Rattle.rules.proofs.Reading.{index-fits}
+use Rattle.rules.proofs.Stepping.{entry-place}
 use Rattle.rules.proofs.steps.place_after.Statement.{statement}
 use Rattle.rules.proofs.steps.place_after.Tie as tie
 
@@ -12,13 +13,13 @@ returns c = rw (eq-eqb _ 255 (c .if1 .taken))
 
 mul-entry-at : tie.Need-mul-entry-at
 mul-entry-at c =
-    let a = c .before .before .args in
-    omega (arith, index (a .place) (a .actions) (a .action) (omega arith) (omega arith) (omega arith))
+    let pre = c .before .before .pre in
+    omega (arith, index-fits (pre .4) (pre .2) (pre .3))
 
 add-entry-at : tie.Need-add-entry-at
 add-entry-at c =
-    let a = c .before .before .args in
-    omega (arith, index (a .place) (a .actions) (a .action) (omega arith) (omega arith) (omega arith))
+    let pre = c .before .before .pre in
+    omega (arith, index-fits (pre .4) (pre .2) (pre .3))
 
 entry-at-requires : tie.Need-entry-at-requires
 entry-at-requires c κs = search needs
