@@ -1,6 +1,6 @@
 -- Laws that the proofs of the steps share: what a byte says of a part, the pairs of two bytes, and the numbers of moves.
 -- Assumes nothing.
-use mathlib.Core.Path.{_≡_, refl, sym}
+use mathlib.Core.Path.{_≡_, refl, sym, _∙_}
 use mathlib.Core.Bool.{Bool, true, false}
 use Prim.Native.Nat.{ℕ, _+_, _*_, _<_}
 use native.Mathlib.Decide.{ℕ-discrete}
@@ -9,10 +9,10 @@ use lib.Dec.{eqb}
 use borrow.Author.Tests.{eq-eqb, ne-eqb, eqb-true}
 use Rattle.trace.specs.Trace.{Move, trip, go}
 use Rattle.automaton.specs.Machine.{moveBy, entryMove}
-use Rattle.policy.specs.Rule.{counting, both, either, then, timed}
-use Rattle.policy.specs.Value.{Part, marked, kept, missed, bothMove, eitherMove, goWith}
+use Rattle.policy.specs.Rule.{same, both, either, copied, then, timed}
+use Rattle.policy.specs.Value.{Part, marked, kept, missed, bothMove, eitherMove, moveAll, goWith}
 use Rattle.rules.specs.Codes.{placeCode, placeBy, codePlace}
-use Rattle.rules.specs.Steps.{encodeMove}
+use Rattle.rules.specs.Steps.{encodeMove, codeStepOf}
 
 -- an entry is a place
 pub entry-place : (e : ℕ) → codePlace e ≡ entryMove 255 e
@@ -54,10 +54,18 @@ module _ (l r : ℕ) where
       → go (l * 256 + r) ≡ encodeMove (either any any) (eitherMove (codePlace l) (codePlace r))
   either-goes h i = rw (ne-eqb l 255 h, ne-eqb r 255 i)
 
--- a count, a row or a set is its own number: the same equation for counting, same, copied and filtered
-pub plain : (m : Move ℕ) → m ≡ encodeMove (counting 0) m
+-- a row is its own number: the same equation for same and filtered
+pub plain : (m : Move ℕ) → m ≡ encodeMove (same any) m
 plain trip = refl
 plain (go v) = refl
+
+-- and a set is. Stated at the step: computing 64 rows is to be avoided.
+pub copied-code : (f : Part) (set a : ℕ) (m : Move ℕ) → m ≡ moveAll f set a → m ≡ codeStepOf (copied f) set a
+copied-code f set a m e = e ∙ set-code (moveAll f set a)
+  where
+    set-code : (m : Move ℕ) → m ≡ encodeMove (copied f) m
+    set-code trip = refl
+    set-code (go v) = refl
 
 -- a part's row under the mark of then and of timed
 pub marked-code : (m : Move ℕ) → goWith (λ q. 256 + q) m ≡ encodeMove (then any any) (goWith marked m)
