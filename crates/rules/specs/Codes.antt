@@ -3,9 +3,11 @@
 use mathlib.Core.Path.{_≡_}
 use mathlib.Core.Bool.{Bool, cond}
 use Prim.Native.Nat.{ℕ, _+_, _*_, _/_, _%_, _^_, _≤_, _<_}
-use lib.Dec.{eqb, ltb}
+use lib.Dec.{eqb}
 use Rattle.trace.specs.Trace.{Move, trip, go}
 use Rattle.policy.specs.Rule.{Rule, opening, counting, same, both, either, copied, until, then, timed, filtered}
+use Rattle.policy.specs.Parts.{AllParts}
+use Rattle.policy.specs.Closed.{Closed}
 use Rattle.policy.specs.Value.{Part, Opening, fresh, spent, Pair, Until, rows, released, Then, row, marked, Timed, waiting, kept, missed, Value}
 
 -- a row or a trip in a byte
@@ -109,3 +111,21 @@ ValueFits (until f g) v = UntilFits v
 ValueFits (then f g) v = ThenFits v
 ValueFits (timed k f g h) v = TimedFits v
 ValueFits (filtered hit f) v = v < 64
+
+-- The counts that sheets have: 1 to 60.
+abbrev pub CountFits : {P : Type 0} → Rule P → Type 0
+CountFits (opening hit) = Unit {0}
+CountFits (counting k) = (1 ≤ k) × (k ≤ 60)
+CountFits (same a) = Unit {0}
+CountFits (both a b) = Unit {0}
+CountFits (either a b) = Unit {0}
+CountFits (copied a) = Unit {0}
+CountFits (until a b) = Unit {0}
+CountFits (then a b) = Unit {0}
+CountFits (timed k a b c) = (1 ≤ k) × (k ≤ 60)
+CountFits (filtered hit a) = Unit {0}
+
+-- A rule whose remembered values fit: its count is in range, and each part has 1 to 64 rows and stays among them.
+pub record FitRule (rule : Rule Part) : Type 0 where
+  pub counted : CountFits rule
+  pub closed : AllParts (λ f. (n : ℕ) × Closed n f) rule

@@ -2,6 +2,7 @@
 mod parts;
 mod sets;
 mod steps;
+
 pub use steps::start;
 pub use steps::step;
 

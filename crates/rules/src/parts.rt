@@ -3,18 +3,14 @@ use crate::Moved;
 ghost use mathlib.Core.Path.{_≡_};
 ghost use Prim.Native.Nat.{_*_, _+_, _≤_, _<_};
 ghost use lib.ListN.{length, getD};
-ghost use Rattle.rules.specs.Rules.{slotAt, partAt, moveOf, Readable};
+ghost use Rattle.rules.specs.Rules.{slotAt, partAt, moveOf};
 
 // Entry k of the rows of node i, 255 where there is none.
 pub fn entry_at(work: &[u8], i: usize, k: usize) -> u8
     requires { ⌜ (65536 ≤ length (now work)) × (i < 64) ⌝ }
     ensures { λ r. ⌜ r ≡ getD (slotAt (now (work .entry)) i) k 255 ⌝ }
 {
-    if k < 1024 {
-        work[i * 1024 + k]
-    } else {
-        255
-    }
+    if k < 1024 { work[i * 1024 + k] } else { 255 }
 }
 
 // Where an action leads from a row of node i.

@@ -2,9 +2,8 @@
 use crate::Moved;
 use crate::parts::part_move;
 ghost use mathlib.Core.Path.{_≡_};
-ghost use Prim.Native.Nat.{_≤_, _<_, _^_};
+ghost use Prim.Native.Nat.{_≤_, _<_};
 ghost use lib.ListN.{length};
-ghost use lib.Bits.{bitOr};
 ghost use Rattle.policy.specs.Value.{insert, moveAll};
 ghost use Rattle.rules.specs.Rules.{partAt, moveOf, Readable};
 
