@@ -6,3 +6,5 @@ pub mod Outcome
 pub mod TableBytes
 pub mod CompiledTable
 pub mod Demands
+pub mod Link
+pub mod NodeCodes

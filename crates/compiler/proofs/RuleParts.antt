@@ -5,7 +5,7 @@ use Prim.Native.Nat.{ℕ}
 use Rattle.policy.specs.Rule.{Rule, opening, counting, same, both, either, copied, until, then, timed, filtered, onParts}
 use Rattle.policy.specs.Parts.{AllParts, Positive}
 use Rattle.policy.proofs.Parts.{all-apply}
-use Rattle.compiler.specs.SheetFacts.{CountFits}
+use Rattle.rules.specs.Codes.{CountFits}
 
 -- what follows of each part
 module _ {P : Type 0} (Q R : P → Type 0) (each : (a : P) → Q a → R a) where

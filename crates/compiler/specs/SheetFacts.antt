@@ -4,6 +4,7 @@
 use mathlib.Core.Path.{_≡_}
 use mathlib.Core.List.{List}
 use Prim.Native.Nat.{ℕ, _-_, _≤_, _<_}
+use Rattle.rules.specs.Codes.{CountFits}
 use Rattle.trace.specs.declared.Mode.{Mode}
 use Rattle.policy.specs.declared.Bound.{Bound}
 use Rattle.policy.specs.declared.Typing.the-variants.{Typed}
@@ -24,19 +25,6 @@ pub record EarlierPolicy (types : List TypedNode) (n i : ℕ) : Type 0 where
   pub before : i < n
   pub mode : Mode
   pub policy : PolicyNode types i mode
-
--- Counts are 1 to 60.
-abbrev pub CountFits : Rule ℕ → Type 0
-CountFits (opening hit) = Unit {0}
-CountFits (counting k) = (1 ≤ k) × (k ≤ 60)
-CountFits (same a) = Unit {0}
-CountFits (both a b) = Unit {0}
-CountFits (either a b) = Unit {0}
-CountFits (copied a) = Unit {0}
-CountFits (until a b) = Unit {0}
-CountFits (then a b) = Unit {0}
-CountFits (timed k a b c) = (1 ≤ k) × (k ≤ 60)
-CountFits (filtered hit a) = Unit {0}
 
 -- A policy node n of a sound sheet, with its type.
 pub record NodeFacts (bytes : List ℕ) (types : List TypedNode) (n : ℕ) (mode : Mode) (bound : Bound) : Type 0 where

@@ -50,7 +50,7 @@ all-on Q f (then a b) h = h
 all-on Q f (timed k a b c) h = h
 all-on Q f (filtered hit a) h = h
 
-count-on : {X Y : Type 0} (f : X → Y) (rule : P.Rule X) → CountFits rule → CountFits (onParts f rule)
+pub count-on : {X Y : Type 0} (f : X → Y) (rule : P.Rule X) → CountFits rule → CountFits (onParts f rule)
 count-on f (opening hit) h = h
 count-on f (counting k) h = h
 count-on f (same a) h = h
