@@ -32,9 +32,12 @@ opening-back spent = refl
 
 pair-back : (p : Pair) → PlaceFits (p .left) × PlaceFits (p .right) → codePair (pairCode p) ≡ p
 pair-back p h =
-    rw (high (placeCode (p .left)) (placeCode (p .right)) (place-byte (p .left) (h .0)) (place-byte (p .right) (h .1)),
-        low (placeCode (p .left)) (placeCode (p .right)) (place-byte (p .right) (h .1)),
-        place-back (p .left) (h .0), place-back (p .right) (h .1)) refl
+    rw (
+      high (placeCode (p .left)) (placeCode (p .right)) (place-byte (p .left) (h .0)) (place-byte (p .right) (h .1)),
+      low (placeCode (p .left)) (placeCode (p .right)) (place-byte (p .right) (h .1)),
+      place-back (p .left) (h .0),
+      place-back (p .right) (h .1),
+    ) refl
 
 until-back : (v : Until) → UntilFits v → codeUntil (untilCode v) ≡ v
 until-back (rows q r) h = rw (ne-eqb (q * 256 + r) 65535 (omega arith), high q r (omega arith) (omega arith), low q r (omega arith)) refl
@@ -42,26 +45,26 @@ until-back released h = refl
 
 then-back : (v : Then) → ThenFits v → codeThen (thenCode v) ≡ v
 then-back (row q) h =
-  let m : q / 256 % 256 ≡ 0 = omega arith in
-  let l : q % 256 ≡ q = omega arith in
-  rw (m, l) refl
+    let m : q / 256 % 256 ≡ 0 = omega arith in
+    let l : q % 256 ≡ q = omega arith in
+    rw (m, l) refl
 then-back (marked r) h =
-  let m : (256 + r) / 256 % 256 ≡ 1 = omega arith in
-  let l : (256 + r) % 256 ≡ r = omega arith in
-  rw (m, l) refl
+    let m : (256 + r) / 256 % 256 ≡ 1 = omega arith in
+    let l : (256 + r) % 256 ≡ r = omega arith in
+    rw (m, l) refl
 
 timed-back : (v : Timed) → TimedFits v → codeTimed (timedCode v) ≡ v
 timed-back (waiting q n) h =
-  let m : (q * 256 + n) / 65536 % 256 ≡ 0 = omega arith in
-  rw (m, high q n (omega arith) (omega arith), low q n (omega arith)) refl
+    let m : (q * 256 + n) / 65536 % 256 ≡ 0 = omega arith in
+    rw (m, high q n (omega arith) (omega arith), low q n (omega arith)) refl
 timed-back (kept r) h =
-  let m : (65536 + r) / 65536 % 256 ≡ 1 = omega arith in
-  let l : (65536 + r) % 256 ≡ r = omega arith in
-  rw (m, l) refl
+    let m : (65536 + r) / 65536 % 256 ≡ 1 = omega arith in
+    let l : (65536 + r) % 256 ≡ r = omega arith in
+    rw (m, l) refl
 timed-back (missed r) h =
-  let m : (131072 + r) / 65536 % 256 ≡ 2 = omega arith in
-  let l : (131072 + r) % 256 ≡ r = omega arith in
-  rw (m, l) refl
+    let m : (131072 + r) / 65536 % 256 ≡ 2 = omega arith in
+    let l : (131072 + r) % 256 ≡ r = omega arith in
+    rw (m, l) refl
 
 pub decode-encode : (rule : Rule Part) (v : Value rule) → ValueFits rule v → decode rule (encode rule v) ≡ v
 decode-encode (opening hit) v h = opening-back v

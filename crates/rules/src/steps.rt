@@ -22,13 +22,7 @@ pub fn start(rule: Rule, work: &[u8], actions: usize) -> u64
 {
     match rule {
         Rule::Copied(_) => 1,
-        Rule::Timed(k, _, _, _) => {
-            if k == 0 {
-                131072
-            } else {
-                0
-            }
-        }
+        Rule::Timed(k, _, _, _) => { if k == 0 { 131072 } else { 0 } }
         _ => 0,
     }
 }
@@ -134,10 +128,10 @@ fn marked_move(work: &[u8], actions: usize, i: usize, mark: u64, row: u64, actio
     requires { ⌜ (65536 ≤ length (now work)) × Readable (now work) i × (actions ≤ 16) × (action < actions) × (mark ≤ 131072) × (row < 256) ⌝ }
     ensures { λ r. ⌜ moveOf r ≡ goWith (λ q. mark + q) (partAt actions (now (work .entry)) i row action) ⌝ }
 {
-    match row_move(work, actions, i, row, action) {
-        Moved::Trip => Moved::Trip,
-        Moved::Go(r) => Moved::Go(mark + r),
-    }
+    let Moved::Go(r) = row_move(work, actions, i, row, action) else {
+        return Moved::Trip;
+    };
+    Moved::Go(mark + r)
 }
 
 // b starts on the action behind the one that fulfils a.
@@ -155,7 +149,16 @@ fn then_step(work: &[u8], actions: usize, i: usize, j: usize, value: u64, action
     }
 }
 
-fn timed_step(work: &[u8], actions: usize, k: usize, i: usize, j: usize, l: usize, value: u64, action: usize) -> Moved
+fn timed_step(
+    work: &[u8],
+    actions: usize,
+    k: usize,
+    i: usize,
+    j: usize,
+    l: usize,
+    value: u64,
+    action: usize,
+) -> Moved
     requires { ⌜ Steppable (now work) (Rule.Timed k i j l) × (actions ≤ 16) × (action < actions) ⌝ }
     ensures { λ r. ⌜ moveOf r ≡ codeStep actions (now (work .entry)) (Rule.Timed k i j l) value action ⌝ }
 {
@@ -180,7 +183,14 @@ fn timed_step(work: &[u8], actions: usize, k: usize, i: usize, j: usize, l: usiz
     }
 }
 
-fn filtered_step(work: &[u8], actions: usize, set: u16, i: usize, value: u64, action: usize) -> Moved
+fn filtered_step(
+    work: &[u8],
+    actions: usize,
+    set: u16,
+    i: usize,
+    value: u64,
+    action: usize,
+) -> Moved
     requires { ⌜ Steppable (now work) (Rule.Filtered set i) × (actions ≤ 16) × (action < actions) ⌝ }
     ensures { λ r. ⌜ moveOf r ≡ codeStep actions (now (work .entry)) (Rule.Filtered set i) value action ⌝ }
 {

@@ -2,7 +2,7 @@
 -- Assumes nothing.
 use mathlib.Core.Path.{_≡_, sym, _∙_, ap}
 use mathlib.Core.List.{List}
-use Prim.Native.Nat.{ℕ}
+use Prim.Native.Nat.{ℕ, _%_}
 use native.Mathlib.Omega.{arith}
 use borrow.Author.Needs.{needs}
 use Rattle.trace.specs.Trace.{Move}
@@ -119,7 +119,8 @@ returns-2 c =
 returns-3 : tie.Need-returns-3
 returns-3 c =
     let a = c .before .before .before .before .before .args in
-    stepped (a .actions) (a .work .now) (a .value) (a .action) (c .before .before .rule3 .given .1) (rw (c .row-move .ensures .0) (plain _))
+    stepped (a .actions) (a .work .now) (a .value) (a .action) (c .before .before .rule3 .given .1)
+    (rw (c .row-move .ensures .0) (plain (partAt (a .actions) (a .work .now) (c .before .before .rule3 .given .0 .0) (a .value % 256) (a .action))))
 
 returns-4 : tie.Need-returns-4
 returns-4 c =
@@ -134,7 +135,7 @@ returns-5 c =
 returns-6 : tie.Need-returns-6
 returns-6 c =
     let a = c .before .before .before .before .before .args in
-    stepped (a .actions) (a .work .now) (a .value) (a .action) (c .before .before .rule6 .given .1) 
+    stepped (a .actions) (a .work .now) (a .value) (a .action) (c .before .before .rule6 .given .1)
     (copied-code (partAt (a .actions) (a .work .now) (c .before .before .rule6 .given .0 .0)) (a .value) (a .action) (moveOf (c .move-all .result)) (c .move-all .ensures))
 
 returns-7 : tie.Need-returns-7

@@ -1,7 +1,7 @@
 -- `rules::steps::timed_step` meets its contract: while a is waited for, a trip of a leads to row 0 of b, and the last action of the wait to
 -- row 0 of c; behind that b or c is moved.
 -- Assumes nothing.
-use Prim.Native.Nat.{_%_}
+use Prim.Native.Nat.{_+_, _%_}
 use native.Mathlib.Omega.{arith}
 use borrow.Author.Needs.{needs}
 use borrow.Author.Tests.{eq-eqb, ne-eqb, le-leb, lt-leb}
@@ -56,18 +56,20 @@ returns-3 c =
 
 returns-4 : tie.Need-returns-4
 returns-4 c =
+    let a = c .before .before .before .before .before .before .before .before .args in
     rw (
       eq-eqb _ 0 (c .before .before .before .before .before .if2 .left),
       ← rw (c .before .before .q .given .1) at (c .before .before .before .before .row-move .ensures .0),
-      le-leb _ _ (c .if3 .taken),
+      le-leb (a .k) (a .value % 256 + 1) (omega arith),
     )
 
 returns-5 : tie.Need-returns-5
 returns-5 c =
+    let a = c .before .before .before .before .before .before .before .before .args in
     rw (
       eq-eqb _ 0 (c .before .before .before .before .before .if2 .left),
       ← rw (c .before .before .q .given .1) at (c .before .before .before .before .row-move .ensures .0),
-      lt-leb _ _ (c .if3 .left),
+      lt-leb (a .k) (a .value % 256 + 1) (omega arith),
     )
 
 pub timed-step-spec : {M : Type 1} → statement M
