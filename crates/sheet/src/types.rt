@@ -155,19 +155,19 @@ fn alike_typed(s: Typing, t: Typing) -> Typing
 fn type_eventually(s: Typing) -> Typing
     ensures { λ r. ⌜ r ≡ typeEventually s ⌝ }
 {
-    let Typing::Typed(m, _) = only(Mode::Watched, s) else {
+    let Typing::Typed(_, _) = only(Mode::Watched, s) else {
         return Typing::Untyped;
     };
-    Typing::Typed(m, Bound::Unbounded)
+    Typing::Typed(Mode::Watched, Bound::Unbounded)
 }
 
 fn type_always(s: Typing) -> Typing
     ensures { λ r. ⌜ r ≡ typeAlways s ⌝ }
 {
-    let Typing::Typed(m, _) = only(Mode::Enforced, s) else {
+    let Typing::Typed(_, _) = only(Mode::Enforced, s) else {
         return Typing::Untyped;
     };
-    Typing::Typed(m, Bound::Unbounded)
+    Typing::Typed(Mode::Enforced, Bound::Unbounded)
 }
 
 fn type_before_minus(s: Typing, t: Typing) -> Typing
@@ -204,10 +204,10 @@ fn found_after_minus(s: Typing, t: Typing) -> TypeFound
     let Typing::Typed(_, j) = only(Mode::Watched, s) else {
         return TypeFound::Unfit;
     };
-    let Typing::Typed(m, k) = only(Mode::Watched, t) else {
+    let Typing::Typed(_, k) = only(Mode::Watched, t) else {
         return TypeFound::Unfit;
     };
-    found_sum(m, j, k)
+    found_sum(Mode::Watched, j, k)
 }
 
 // Checks 6 and 7 of After+.
@@ -217,10 +217,10 @@ fn found_after_plus(s: Typing, t: Typing) -> TypeFound
     let Typing::Typed(_, j) = only(Mode::Watched, s) else {
         return TypeFound::Unfit;
     };
-    let Typing::Typed(m, k) = only(Mode::Enforced, t) else {
+    let Typing::Typed(_, k) = only(Mode::Enforced, t) else {
         return TypeFound::Unfit;
     };
-    found_sum(m, j, k)
+    found_sum(Mode::Enforced, j, k)
 }
 
 // Whether a bound is exactly k.
@@ -243,11 +243,11 @@ fn found_fulfilling(k: usize, s: Typing, t: Typing, u: Typing) -> TypeFound
     let Typing::Typed(_, j) = only(Mode::Enforced, t) else {
         return TypeFound::Unfit;
     };
-    let Typing::Typed(m, l) = only(Mode::Enforced, u) else {
+    let Typing::Typed(_, l) = only(Mode::Enforced, u) else {
         return TypeFound::Unfit;
     };
     if is_bound(i, k) {
-        found_sum(m, Bound::Finite(k), larger(j, l))
+        found_sum(Mode::Enforced, Bound::Finite(k), larger(j, l))
     } else {
         TypeFound::Unfit
     }
