@@ -1,16 +1,11 @@
+-- `sheet::types::found` meets its contract.
+-- Assumes nothing.
 use borrow.Author.Needs.{needs}
 use Rattle.sheet.proofs.types.found.Statement.{statement}
 use Rattle.sheet.proofs.types.found.Tie as tie
-use Rattle.sheet.proofs.types.found.Reads as reads
-use Rattle.sheet.proofs.types.found.Lts as lts
-use Rattle.sheet.proofs.types.bound_fits.Reads as bound-fits-reads
 
 returns-2 : tie.Need-returns-2
 returns-2 c = rw (c .before .before .before .t .given .1, ← c .before .bound-fits .ensures, c .if1 .taken)
-
-returns-3 : tie.Need-returns-3
-returns-3 c = search needs
-
 
 pub found-spec : {M : Type 1} → statement M
 found-spec =
@@ -21,4 +16,4 @@ found-spec =
     (λ c. search needs)
     (λ c κs. search needs)
     returns-2
-    returns-3)
+    (λ c. search needs))

@@ -2,8 +2,8 @@
 -- Assumes nothing.
 use mathlib.Core.Path.{_≡_, ap, sym, _∙_}
 use borrow.Author.Needs.{needs}
-use Rattle.policy.specs.declared.Bound.{Bound}
 use Rattle.trace.specs.declared.Mode.the-variants.{Watched, Enforced}
+use Rattle.policy.specs.declared.Bound.{Bound}
 use Rattle.policy.specs.declared.Typing.the-variants.{Typed}
 use Rattle.sheet.specs.Types.{found, onlyAs}
 use Rattle.sheet.proofs.Modes.{not-fulfilling-a, not-fulfilling-b, not-fulfilling-c, not-fulfilling-k, fulfilling-abc}

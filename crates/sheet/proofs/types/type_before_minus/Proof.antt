@@ -1,39 +1,27 @@
-use mathlib.Core.Path.{ap, sym, _∙_}
-use Rattle.sheet.proofs.Modes.{watched-as, not-watched}
-use Rattle.trace.specs.declared.Mode.the-variants.{Watched, Enforced}
-use Rattle.policy.specs.declared.Bound.the-variants.{Finite, Unbounded}
-use Rattle.policy.specs.declared.Typing.the-variants.{Typed, Untyped}
-use Rattle.policy.specs.Typing.{plus, larger, exactly, ifWatched, ifEnforced}
+-- `sheet::types::type_before_minus` meets its contract.
+-- Assumes nothing.
+use mathlib.Core.Path.{sym, _∙_}
 use borrow.Author.Needs.{needs}
+use Rattle.trace.specs.declared.Mode.the-variants.{Watched}
+use Rattle.policy.specs.declared.Typing.the-variants.{Typed}
+use Rattle.policy.specs.Typing.{ifWatched}
+use Rattle.sheet.proofs.Modes.{watched-as, not-watched}
 use Rattle.sheet.proofs.types.type_before_minus.Statement.{statement}
 use Rattle.sheet.proofs.types.type_before_minus.Tie as tie
-use Rattle.sheet.proofs.types.type_before_minus.Reads as reads
-use Rattle.sheet.proofs.types.type_before_minus.Lts as lts
-use Rattle.sheet.proofs.types.only.Reads as only-reads
 
--- src/types.rt:176:31
-only-requires : tie.Need-only-requires
-only-requires c κs = search needs
-
-enum-told : tie.Need-enum-told
-enum-told c = search needs
-
--- src/types.rt:177:9
-enum-told-2 : tie.Need-enum-told-2
-enum-told-2 c = search needs
-
--- src/types.rt:177:9
 returns : tie.Need-returns
 returns c = sym (not-watched (c .before .before .before .args .s) (λ j. ifWatched (c .before .before .before .args .t) (λ k. Typed Watched k)) (sym (c .before .before .only .ensures) ∙ c .enum-told2 .given .1))
 
--- src/types.rt:179:5
-only-requires-2 : tie.Need-only-requires-2
-only-requires-2 c κs = search needs
-
--- src/types.rt:173:1
 returns-2 : tie.Need-returns-2
 returns-2 c = c .only2 .ensures ∙ sym (watched-as (c .before .before .before .before .args .s) (λ j. ifWatched (c .before .before .before .before .args .t) (λ k. Typed Watched k)) (sym (c .before .before .before .only .ensures) ∙ c .before .enum-told .given .1))
 
 pub type-before-minus-spec : {M : Type 1} → statement M
 type-before-minus-spec =
-    tie.close (tie.spec only-requires enum-told enum-told-2 returns only-requires-2 returns-2)
+    tie.close
+    (tie.spec
+    (λ c κs. search needs)
+    (λ c. search needs)
+    (λ c. search needs)
+    returns
+    (λ c κs. search needs)
+    returns-2)

@@ -1,34 +1,26 @@
-use mathlib.Core.Path.{ap, sym, _∙_}
-use Rattle.sheet.proofs.Modes.{watched-as, not-watched}
-use Rattle.trace.specs.declared.Mode.the-variants.{Watched, Enforced}
-use Rattle.policy.specs.declared.Bound.the-variants.{Finite, Unbounded}
-use Rattle.policy.specs.declared.Typing.the-variants.{Typed, Untyped}
-use Rattle.policy.specs.Typing.{plus, larger, exactly, ifWatched, ifEnforced}
+-- `sheet::types::type_eventually` meets its contract.
+-- Assumes nothing.
+use mathlib.Core.Path.{sym, _∙_}
 use borrow.Author.Needs.{needs}
+use Rattle.trace.specs.declared.Mode.the-variants.{Watched}
+use Rattle.policy.specs.declared.Bound.the-variants.{Unbounded}
+use Rattle.policy.specs.declared.Typing.the-variants.{Typed}
+use Rattle.sheet.proofs.Modes.{watched-as, not-watched}
 use Rattle.sheet.proofs.types.type_eventually.Statement.{statement}
 use Rattle.sheet.proofs.types.type_eventually.Tie as tie
-use Rattle.sheet.proofs.types.type_eventually.Reads as reads
-use Rattle.sheet.proofs.types.type_eventually.Lts as lts
-use Rattle.sheet.proofs.types.only.Reads as only-reads
 
--- src/types.rt:158:31
-only-requires : tie.Need-only-requires
-only-requires c κs = search needs
-
-enum-told : tie.Need-enum-told
-enum-told c = search needs
-
--- src/types.rt:159:9
-enum-told-2 : tie.Need-enum-told-2
-enum-told-2 c = search needs
-
--- src/types.rt:159:9
 returns : tie.Need-returns
 returns c = sym (not-watched (c .before .before .before .args .s) (λ k. Typed Watched Unbounded) (sym (c .before .before .only .ensures) ∙ c .enum-told2 .given .1))
 
--- src/types.rt:155:1
 returns-2 : tie.Need-returns-2
 returns-2 c = sym (watched-as (c .before .before .before .args .s) (λ k. Typed Watched Unbounded) (sym (c .before .before .only .ensures) ∙ c .enum-told .given .1))
 
 pub type-eventually-spec : {M : Type 1} → statement M
-type-eventually-spec = tie.close (tie.spec only-requires enum-told enum-told-2 returns returns-2)
+type-eventually-spec =
+    tie.close
+    (tie.spec
+    (λ c κs. search needs)
+    (λ c. search needs)
+    (λ c. search needs)
+    returns
+    returns-2)
