@@ -1,14 +1,15 @@
 // Rule sheets: the serialised syntax tree of a policy, and checks 1 to 7.
 use policy::Bound;
 use trace::Mode;
-//mod layouts;
+mod layouts;
 mod nodes;
 mod types;
-//mod checks;
-//pub use checks::judge;
-//pub use layouts::layout;
+mod checks;
+pub use checks::judge;
+pub use layouts::find_layout;
 pub use nodes::read_node;
 pub use types::type_at;
+pub use types::type_node;
 
 // A node: an action formula (kinds 1 to 6) or a policy (kinds 10 to 23), over the numbers of its parts.
 pub enum Node {
