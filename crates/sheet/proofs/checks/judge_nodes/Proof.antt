@@ -1,109 +1,112 @@
+-- `sheet::checks::judge_nodes` meets its contract. The loop's invariant: the nodes before n are sound, and the array has their types.
+-- Assumes nothing.
+use mathlib.Core.Path.{_≡_, refl, sym, ap, _∙_}
+use mathlib.Core.Logic.{⊎-elim}
+use mathlib.Core.List.{List, [], _∷_}
+use Prim.Native.Nat.{ℕ, _-_, _≤_}
+use native.Mathlib.Omega.{arith}
+use lib.ListN.{take}
+use borrow.Author.Needs.{needs}
+use Rattle.sheet.specs.Node.{nodeOf}
+use Rattle.sheet.specs.Judge.{faulty, sound, judgeType, judgeNode, judgeNodes, judgeLast, judgeAll, readFault, typeFault}
+use Rattle.sheet.specs.declared.Fault.{Fault}
+use Rattle.sheet.specs.declared.Node.{Node}
+use Rattle.sheet.specs.declared.NodeRead.{NodeRead}
+use Rattle.sheet.specs.declared.NodeRead.the-variants.{Read, UnknownKind, WrongField}
+use Rattle.sheet.specs.declared.TypeFound.{TypeFound}
+use Rattle.sheet.specs.declared.TypeFound.the-variants.{Fits, Unfit, TooLong}
+use Rattle.sheet.specs.declared.TypedNode.{TypedNode}
+use types.Run.{OneOf}
+use denote.Enum.Declared.{tagOf}
+use Rattle.sheet.proofs.NodeRead as node-read
+use Rattle.sheet.proofs.TypeFound as type-found
+use Rattle.sheet.proofs.Outcomes.{Typed, typed-none, typed-more, node-at, fault-at, fault-type, sound-more, judge-last}
 use Rattle.sheet.proofs.checks.judge_nodes.Statement.{statement}
 use Rattle.sheet.proofs.checks.judge_nodes.Tie as tie
-use Rattle.sheet.proofs.checks.judge_nodes.Reads as reads
-use Rattle.sheet.proofs.checks.judge_nodes.Lts as lts
-use Rattle.sheet.proofs.checks.read_fault.Reads as read-fault-reads
-use Rattle.sheet.proofs.checks.type_fault.Reads as type-fault-reads
-use Rattle.sheet.proofs.nodes.read_node.Reads as read-node-reads
-use Rattle.sheet.proofs.types.type_at.Reads as type-at-reads
-use Rattle.sheet.proofs.types.type_node.Reads as type-node-reads
 
 abbrev Inv-loop : tie.InvT-loop
-Inv-loop bytes nodes start types₀ n₀ types n = ?
+Inv-loop bytes nodes start types₀ n₀ types n = (n ≤ nodes) × Typed types n × (judgeNodes bytes n ≡ sound (take n types))
 
 abbrev μ-loop : tie.MeasureT-loop
-μ-loop bytes nodes start types₀ n₀ types n = ?
+μ-loop bytes nodes start types₀ n₀ types n = nodes - n
 
--- src/checks.rt:46:5
+-- a node that is not read, and one whose type is not found
+not-read : (n : ℕ) (types : List TypedNode) (r : NodeRead) → OneOf (1 ∷ 2 ∷ []) (tagOf node-read.the-type r) → judgeNode n types r ≡ faulty (readFault n r)
+not-read n types (Read node) h = absurd (⊎-elim (λ (e : 0 ≡ 1). omega arith) (λ (e : 0 ≡ 2). omega arith) h)
+not-read n types UnknownKind h = refl
+not-read n types WrongField h = refl
+
+not-found : (n : ℕ) (types : List TypedNode) (r : TypeFound) → OneOf (1 ∷ 2 ∷ []) (tagOf type-found.the-type r) → judgeType n types r ≡ faulty (typeFault n r)
+not-found n types (Fits t) h = absurd (⊎-elim (λ (e : 0 ≡ 1). omega arith) (λ (e : 0 ≡ 2). omega arith) h)
+not-found n types Unfit h = refl
+not-found n types TooLong h = refl
+
 loop-holds : tie.Need-loop-holds Inv-loop μ-loop
-loop-holds c = ?
+loop-holds c = (search needs, typed-none, refl)
 
--- src/checks.rt:47:45
-mul-read-node : tie.Need-mul-read-node Inv-loop μ-loop
-mul-read-node c = ?
+-- node n is looked at
+module _ (c : tie.After-read-node Inv-loop μ-loop) where
+  abbrev bytes : List ℕ
+  bytes = c .before .before .before .before .args .bytes .now
 
--- src/checks.rt:47:37
-add-read-node : tie.Need-add-read-node Inv-loop μ-loop
-add-read-node c = ?
+  abbrev n : ℕ
+  n = c .before .before .loop .n
 
--- src/checks.rt:47:13
-read-node-requires : tie.Need-read-node-requires Inv-loop μ-loop
-read-node-requires c κs = ?
+  abbrev found-so-far : List TypedNode
+  found-so-far = c .before .before .loop .types
 
--- src/checks.rt:48:28
-enum-known-read : tie.Need-enum-known-read Inv-loop μ-loop
-enum-known-read c = ?
+  read-is : c .read-node .result ≡ nodeOf bytes n
+  read-is = c .read-node .ensures ∙ node-at bytes n _ (omega (arith, c .before .before .before .before .pre .from))
 
--- src/checks.rt:49:57
-read-fault-requires : tie.Need-read-fault-requires Inv-loop μ-loop
-read-fault-requires c κs = ?
+  read-faulty : (f : Fault) → judgeNode n (take n found-so-far) (c .read-node .result) ≡ faulty f → faulty f ≡ judgeAll bytes (c .before .before .before .before .args .nodes)
+  read-faulty f e =
+      fault-at bytes n found-so-far (c .before .before .loop .inv .1) (c .before .before .loop .inv .2) (c .before .before .before .before .args .nodes) f (c .before .loop-test .taken)
+      (ap (judgeNode n (take n found-so-far)) (sym read-is) ∙ e)
 
--- src/checks.rt:49:13
 returns : tie.Need-returns Inv-loop μ-loop
-returns c = ?
+returns c =
+    let a = c .before .before in
+    ap faulty (c .read-fault .ensures) ∙ read-faulty a _ (not-read (n a) (take (n a) (found-so-far a)) (a .read-node .result) (c .before .match .keys2))
 
--- src/checks.rt:51:13
-type-node-requires : tie.Need-type-node-requires Inv-loop μ-loop
-type-node-requires c κs = ?
+-- and was read, and its type looked for
+module _ (c : tie.After-type-node Inv-loop μ-loop) where
+  abbrev at : tie.After-read-node Inv-loop μ-loop
+  at = c .before .before .before .before
 
--- src/checks.rt:52:29
-enum-known-found : tie.Need-enum-known-found Inv-loop μ-loop
-enum-known-found c = ?
+  abbrev node : Node
+  node = c .before .before .read .given .0 .0
 
--- src/checks.rt:53:57
-type-fault-requires : tie.Need-type-fault-requires Inv-loop μ-loop
-type-fault-requires c κs = ?
+  node-is : nodeOf (bytes at) (n at) ≡ Read node
+  node-is = sym (read-is at) ∙ c .before .before .read .given .1
 
--- src/checks.rt:53:13
 returns-2 : tie.Need-returns-2 Inv-loop μ-loop
-returns-2 c = ?
+returns-2 c =
+    let b = c .before .before in
+    let a = at b in
+    ap faulty (c .type-fault .ensures)
+    ∙ fault-type (bytes a) (n a) (found-so-far a) (a .before .before .loop .inv .1) (a .before .before .loop .inv .2) (node b) (node-is b) (a .before .before .before .before .args .nodes) _ (a .before .loop-test .taken)
+    (ap (judgeType (n a) (take (n a) (found-so-far a))) (sym (b .type-node .ensures)) ∙ not-found (n a) (take (n a) (found-so-far a)) (b .type-node .result) (c .before .match2 .keys2))
 
--- src/checks.rt:55:9
-mul-types : tie.Need-mul-types Inv-loop μ-loop
-mul-types c = ?
-
--- src/checks.rt:55:9
-array-set-from-types : tie.Need-array-set-from-types Inv-loop μ-loop
-array-set-from-types c = ?
-
--- src/checks.rt:56:9
-add-n : tie.Need-add-n Inv-loop μ-loop
-add-n c = ?
-
--- src/checks.rt:46:5
-loop-less : tie.Need-loop-less Inv-loop μ-loop
-loop-less c = ?
-
--- src/checks.rt:46:5
 loop-again : tie.Need-loop-again Inv-loop μ-loop
-loop-again c = ?
+loop-again c =
+    let b = c .before .before .before in
+    let a = at b in
+    let t = c .before .found .given .0 .0 in
+    (search needs, typed-more (found-so-far a) (n a) t (a .before .before .loop .inv .1),
+    sound-more (bytes a) (n a) (found-so-far a) (a .before .before .loop .inv .1) (a .before .before .loop .inv .2) (node b) (node-is b) t (omega (arith, a .before .before .before .before .pre .few)) (sym (b .type-node .ensures) ∙ c .before .found .given .1))
 
--- src/checks.rt:58:49
-sub-type-at : tie.Need-sub-type-at Inv-loop μ-loop
-sub-type-at c = ?
+-- all nodes were looked at
+module _ (c : tie.After-type-at Inv-loop μ-loop) where
+  last-is : judgeAll (c .before .before .before .before .args .bytes .now) (c .before .before .before .before .args .nodes) ≡ judgeLast (c .before .before .before .before .args .nodes - 1) (take (c .before .before .before .before .args .nodes) (c .before .before .loop .types)) (c .type-at .result)
+  last-is =
+      judge-last (c .before .before .before .before .args .bytes .now) (c .before .before .loop .n) (c .before .before .loop .types) (c .before .before .loop .inv .1) (c .before .before .loop .inv .2) (c .before .before .before .before .args .nodes) (omega arith)
+      ∙ rw (c .type-at .ensures)
 
--- src/checks.rt:58:34
-type-at-requires : tie.Need-type-at-requires Inv-loop μ-loop
-type-at-requires c κs = ?
-
-enum-told : tie.Need-enum-told Inv-loop μ-loop
-enum-told c = ?
-
--- src/checks.rt:59:72
-enum-told-2 : tie.Need-enum-told-2 Inv-loop μ-loop
-enum-told-2 c = ?
-
--- src/checks.rt:59:72
-sub-t28 : tie.Need-sub-t28 Inv-loop μ-loop
-sub-t28 c = ?
-
--- src/checks.rt:59:9
 returns-3 : tie.Need-returns-3 Inv-loop μ-loop
-returns-3 c = ?
+returns-3 c = sym (last-is (c .before .before) ∙ rw (c .enum-told2 .given .1))
 
--- src/checks.rt:40:1
 returns-4 : tie.Need-returns-4 Inv-loop μ-loop
-returns-4 c = ?
+returns-4 c = sym (last-is (c .before .before) ∙ rw (c .enum-told .given .1))
 
 pub judge-nodes-spec : {M : Type 1} → statement M
 judge-nodes-spec =
@@ -112,25 +115,25 @@ judge-nodes-spec =
     Inv-loop
     μ-loop
     loop-holds
-    mul-read-node
-    add-read-node
-    read-node-requires
-    enum-known-read
-    read-fault-requires
+    (λ c. search needs)
+    (λ c. search needs)
+    (λ c κs. search needs)
+    (λ c. search needs)
+    (λ c κs. search needs)
     returns
-    type-node-requires
-    enum-known-found
-    type-fault-requires
+    (λ c κs. search needs)
+    (λ c. search needs)
+    (λ c κs. search needs)
     returns-2
-    mul-types
-    array-set-from-types
-    add-n
-    loop-less
+    (λ c. search needs)
+    (λ c. search needs)
+    (λ c. search needs)
+    (λ c. search needs)
     loop-again
-    sub-type-at
-    type-at-requires
-    enum-told
-    enum-told-2
-    sub-t28
+    (λ c. search needs)
+    (λ c κs. search needs)
+    (λ c. search needs)
+    (λ c. search needs)
+    (λ c. search needs)
     returns-3
     returns-4)
