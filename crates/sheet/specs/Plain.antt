@@ -3,11 +3,23 @@
 use mathlib.Core.Path.{_≡_}
 use mathlib.Core.Logic.{_⊎_}
 use mathlib.Core.List.{List}
-use Prim.Native.Nat.{ℕ, _≤_, _<_}
+use Prim.Native.Nat.{ℕ, _-_, _≤_, _<_}
 use lib.ListN.{length}
+use Rattle.trace.specs.declared.Mode.{Mode}
+use Rattle.policy.specs.declared.Bound.{Bound}
+use Rattle.policy.specs.declared.Typing.the-variants.{Typed}
+use Rattle.policy.specs.Typing.{typeOf}
 use Rattle.sheet.specs.Sheet.{actionCount, nodeCount, actionsAt, nodesAt, actionsEnd, nodesEnd, total}
+use Rattle.sheet.specs.Node.{nodeOf}
+use Rattle.sheet.specs.Types.{typeAt, typeNode}
+use Rattle.sheet.specs.Meaning.{Meaning, formula, policy}
 use Rattle.sheet.specs.declared.Node.{Node}
 use Rattle.sheet.specs.declared.Node.the-variants.{True, False, Proposition, Negation, Conjunction, Disjunction, Now, Holds, Count, Not, And, Or, Eventually, Always, BeforeMinus, BeforePlus, AfterMinus, AfterPlus, Fulfilling, Ignoring}
+use Rattle.sheet.specs.declared.NodeRead.the-variants.{Read}
+use Rattle.sheet.specs.declared.NodeType.{NodeType}
+use Rattle.sheet.specs.declared.NodeType.the-variants.{Formula, Policy}
+use Rattle.sheet.specs.declared.TypedNode.{TypedNode}
+use Rattle.sheet.specs.declared.TypeFound.the-variants.{Fits}
 
 -- Checks 1 to 3 pass.
 pub record WellLaid (bytes : List ℕ) : Type 0 where
@@ -68,3 +80,27 @@ ArgumentFits (AfterMinus a b) = Unit {0}
 ArgumentFits (AfterPlus a b) = Unit {0}
 ArgumentFits (Fulfilling k a b c) = (1 ≤ k) × (k ≤ 60)
 ArgumentFits (Ignoring a b) = Unit {0}
+
+-- A node of a sound sheet: it is read, its parts stand before it, and it has its type from theirs.
+pub record SoundNode (bytes : List ℕ) (types : List TypedNode) (n : ℕ) : Type 0 where
+  pub node : Node
+  pub read : nodeOf bytes n ≡ Read node
+  pub parts : PartsBelow n node
+  pub argument : ArgumentFits node
+  pub typed : typeNode node (typeAt types) ≡ Fits (typeAt types n)
+
+-- Checks 1 to 7 pass: each node is sound, and the last one is a policy.
+pub record SoundSheet (bytes : List ℕ) (types : List TypedNode) : Type 0 where
+  pub laid : WellLaid bytes
+  pub counted : length types ≡ nodeCount bytes
+  pub nodes : (n : ℕ) → n < nodeCount bytes → SoundNode bytes types n
+  pub last-mode : Mode
+  pub last-bound : Bound
+  pub last : typeAt types (nodeCount bytes - 1) ≡ Policy last-mode last-bound
+
+-- The type of a node says what its meaning is: a formula, or a policy of that type.
+abbrev pub Agrees : NodeType → Meaning → Type 0
+Agrees Formula (formula f) = Unit {0}
+Agrees Formula (policy p) = ⊥
+Agrees (Policy m k) (formula f) = ⊥
+Agrees (Policy m k) (policy p) = typeOf p ≡ Typed m k
