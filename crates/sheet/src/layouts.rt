@@ -51,10 +51,12 @@ pub fn find_layout(bytes: &[u8]) -> Layout
     if !length_right(bytes) {
         return Layout::Misplaced(Fault::Length);
     }
-    if !counts_right(bytes) {
+    let counts = counts_right(bytes);
+    let areas = areas_right(bytes);
+    if !counts {
         return Layout::Misplaced(Fault::Counts);
     }
-    if !areas_right(bytes) {
+    if !areas {
         return Layout::Misplaced(Fault::Areas);
     }
     Layout::Laid {
