@@ -2,8 +2,9 @@
 -- Assumes nothing.
 use mathlib.Core.Bool.{Bool, true, false, cond}
 use mathlib.Core.List.{List, [], _∷_, _++_}
-use Prim.Native.Nat.{ℕ, zero, suc, _-_}
-use lib.ListN.{take}
+use mathlib.Core.Path.{_≡_}
+use Prim.Native.Nat.{ℕ, zero, suc, _+_, _*_, _-_, _≤_}
+use lib.ListN.{length, take}
 use Rattle.sheet.specs.Sheet.{actionCount, nodeCount, actionsAt, nodesAt, lengthRight, countsRight, areasRight}
 use Rattle.sheet.specs.Node.{nodeOf}
 use Rattle.sheet.specs.Types.{typeAt, typeNode}
@@ -46,6 +47,17 @@ spotOf (WrongFieldAt n) = n
 spotOf (WrongTypeAt n) = n
 spotOf (BoundAt n) = n
 
+-- The fault of checks 4 and 5, and of 6 and 7, of node n where they fail. Where they pass, any will do.
+abbrev pub readFault : ℕ → NodeRead → Fault
+readFault n (Read node) = WrongFieldAt n
+readFault n UnknownKind = UnknownKindAt n
+readFault n WrongField = WrongFieldAt n
+
+abbrev pub typeFault : ℕ → TypeFound → Fault
+typeFault n (Fits t) = WrongTypeAt n
+typeFault n Unfit = WrongTypeAt n
+typeFault n TooLong = BoundAt n
+
 -- checks 6 and 7 of node n
 abbrev pub judgeType : ℕ → List TypedNode → TypeFound → Outcome
 judgeType n types (Fits t) = sound (types ++ (record { of = t } ∷ []))
@@ -83,13 +95,22 @@ layoutOf bytes =
     (Misplaced Length)
 
 -- Then the nodes, one by one, and the last one.
+abbrev pub judgeAll : List ℕ → ℕ → Outcome
+judgeAll bytes nodes = unlessFaulty (judgeNodes bytes nodes) (λ types. judgeLast (nodes - 1) types (typeAt types (nodes - 1)))
+
 abbrev pub judgeLaid : List ℕ → Layout → Outcome
-judgeLaid bytes (Laid actions nodes actionsFrom nodesFrom) =
-    unlessFaulty (judgeNodes bytes nodes) (λ types. judgeLast (nodes - 1) types (typeAt types (nodes - 1)))
+judgeLaid bytes (Laid actions nodes actionsFrom nodesFrom) = judgeAll bytes nodes
 judgeLaid bytes (Misplaced f) = faulty f
 
 abbrev pub judge : List ℕ → Outcome
 judge bytes = judgeLaid bytes (layoutOf bytes)
+
+-- What checks 1 to 3 say of the nodes: how many, and where they stand.
+pub record NodesLaid (bytes : List ℕ) (nodes nodesFrom : ℕ) : Type 0 where
+  pub from : nodesFrom ≡ nodesAt bytes
+  pub some : 1 ≤ nodes
+  pub few : nodes ≤ 64
+  pub inside : nodesFrom + 5 * nodes ≤ length bytes
 
 -- What a judged sheet says: its fault, or the types of its first nodes.
 abbrev pub outcomeBy : Judged → List TypedNode → Outcome

@@ -3,3 +3,4 @@ pub mod Node
 pub mod Types
 pub mod Judge
 pub mod Meaning
+pub mod Plain

@@ -5,7 +5,13 @@ use mathlib.Core.List.{List}
 use Prim.Native.Nat.{ℕ}
 use lib.Dec.{leb}
 use lib.ListN.{getD}
-use Rattle.policy.specs.Typing.{Mode, Bound, finite, unbounded, Typing, typed, untyped, alikeTyped, typeNow, typeHolds, typeCount, typeNot, typeEventually, typeAlways, typeBefore-, typeBefore+, typeAfter-, typeAfter+, typeFulfilling, typeIgnoring}
+use Rattle.trace.specs.declared.Mode.{Mode}
+use Rattle.trace.specs.declared.Mode.the-variants.{Watched as watched, Enforced as enforced}
+use Rattle.policy.specs.declared.Bound.{Bound}
+use Rattle.policy.specs.declared.Bound.the-variants.{Finite as finite, Unbounded as unbounded}
+use Rattle.policy.specs.declared.Typing.{Typing}
+use Rattle.policy.specs.declared.Typing.the-variants.{Typed as typed, Untyped as untyped}
+use Rattle.policy.specs.Typing.{onMode, ifWatched, ifEnforced, alikeTyped, typeNow, typeHolds, typeCount, typeNot, typeEventually, typeAlways, typeBefore-, typeBefore+, typeAfter-, typeAfter+, typeFulfilling, typeIgnoring}
 use Rattle.sheet.specs.declared.Node.{Node}
 use Rattle.sheet.specs.declared.Node.the-variants.{True, False, Proposition, Negation, Conjunction, Disjunction, Now, Holds, Count, Not, And, Or, Eventually, Always, BeforeMinus, BeforePlus, AfterMinus, AfterPlus, Fulfilling, Ignoring}
 use Rattle.sheet.specs.declared.NodeType.{NodeType}
@@ -27,6 +33,10 @@ typingOf (Policy m k) = typed m k
 abbrev pub ifFormula : NodeType → TypeFound → TypeFound
 ifFormula Formula found = found
 ifFormula (Policy m k) found = Unfit
+
+-- A part that has to be of a mode.
+abbrev pub onlyAs : Mode → Typing → Typing
+onlyAs m t = onMode m (ifWatched t (λ k. typed watched k)) (ifEnforced t (λ k. typed enforced k))
 
 -- Bounds are 1 to 65,534, or unbounded.
 abbrev pub boundFits : Bound → Bool

@@ -7,31 +7,69 @@ use crate::NodeRead;
 use crate::NodeType;
 use crate::TypeFound;
 use crate::TypedNode;
-use crate::layouts::layout;
+use crate::layouts::find_layout;
 use crate::nodes::read_node;
 use crate::types::type_at;
 use crate::types::type_node;
 ghost use mathlib.Core.Path.{_≡_};
-ghost use Rattle.sheet.specs.Judge.{outcomeOf, judge};
+ghost use Rattle.sheet.specs.Judge.{NodesLaid, readFault, typeFault, judgeAll, outcomeOf};
+
+// The fault of a node that fails check 4 or 5.
+fn read_fault(read: NodeRead, n: usize) -> Fault
+    ensures { λ r. ⌜ r ≡ readFault n read ⌝ }
+{
+    match read {
+        NodeRead::Read(_) => Fault::WrongFieldAt(n),
+        NodeRead::UnknownKind => Fault::UnknownKindAt(n),
+        NodeRead::WrongField => Fault::WrongFieldAt(n),
+    }
+}
+
+// The fault of a node that fails check 6 or 7.
+fn type_fault(found: TypeFound, n: usize) -> Fault
+    ensures { λ r. ⌜ r ≡ typeFault n found ⌝ }
+{
+    match found {
+        TypeFound::Fits(_) => Fault::WrongTypeAt(n),
+        TypeFound::Unfit => Fault::WrongTypeAt(n),
+        TypeFound::TooLong => Fault::BoundAt(n),
+    }
+}
+
+// The nodes, one by one, and that the last is a policy.
+fn judge_nodes(bytes: &[u8], nodes: usize, start: usize) -> JudgedSheet
+    requires { ⌜ NodesLaid (now bytes) nodes start ⌝ }
+    ensures { λ r. ⌜ outcomeOf r ≡ judgeAll (now (bytes .entry)) nodes ⌝ }
+{
+    let mut types = [TypedNode { of: NodeType::Formula }; 64];
+    let mut n = 0;
+    while n < nodes {
+        let read = read_node(bytes, start + 5 * n, n);
+        let NodeRead::Read(node) = read else {
+            return JudgedSheet { judged: Judged::Faulty(read_fault(read, n)), types };
+        };
+        let found = type_node(node, types);
+        let TypeFound::Fits(t) = found else {
+            return JudgedSheet { judged: Judged::Faulty(type_fault(found, n)), types };
+        };
+        types[n] = TypedNode { of: t };
+        n += 1;
+    }
+    let NodeType::Policy(_, _) = type_at(types, nodes - 1) else {
+        return JudgedSheet { judged: Judged::Faulty(Fault::WrongTypeAt(nodes - 1)), types };
+    };
+    JudgedSheet { judged: Judged::Sound(nodes), types }
+}
 
 // The first fault of any bytes, or none and the types of the nodes.
 pub fn judge(bytes: &[u8]) -> JudgedSheet
     ensures { λ r. ⌜ outcomeOf r ≡ Rattle.sheet.specs.Judge.judge (now (bytes .entry)) ⌝ }
 {
-    let mut types = [TypedNode { of: NodeType::Formula }; 64];
-    let Layout::Laid { actions: _, nodes, actions_at: _, nodes_at } = layout(bytes) else {
-        return JudgedSheet { judged: Judged::Faulty(Fault::Length), types };
-    };
-    let mut n = 0;
-    while n < nodes {
-        let NodeRead::Read(node) = read_node(bytes, nodes_at + 5 * n, n) else {
-            return JudgedSheet { judged: Judged::Faulty(Fault::UnknownKindAt(n)), types };
-        };
-        let TypeFound::Fits(t) = type_node(node, types) else {
-            return JudgedSheet { judged: Judged::Faulty(Fault::WrongTypeAt(n)), types };
-        };
-        types[n] = TypedNode { of: t };
-        n += 1;
+    match find_layout(bytes) {
+        Layout::Laid { actions: _, nodes, actions_at: _, nodes_at } => judge_nodes(bytes, nodes, nodes_at),
+        Layout::Misplaced(fault) => JudgedSheet {
+            judged: Judged::Faulty(fault),
+            types: [TypedNode { of: NodeType::Formula }; 64],
+        },
     }
-    JudgedSheet { judged: Judged::Sound(nodes), types }
 }

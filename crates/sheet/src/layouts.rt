@@ -3,33 +3,66 @@ use crate::Fault;
 use crate::Layout;
 use base::word;
 ghost use mathlib.Core.Path.{_≡_};
+ghost use Prim.Native.Nat.{_<_};
+ghost use lib.ListN.{length};
+ghost use Rattle.sheet.specs.Sheet.{lengthRight, countsRight, areasRight};
 ghost use Rattle.sheet.specs.Judge.{layoutOf};
 
-// Where the areas are, or the first fault.
-pub fn layout(bytes: &[u8]) -> Layout
-    ensures { λ r. ⌜ r ≡ layoutOf (now (bytes .entry)) ⌝ }
+// Check 1.
+fn length_right(bytes: &[u8]) -> bool
+    ensures { λ r. ⌜ r ≡ lengthRight (now (bytes .entry)) ⌝ }
 {
     if bytes.len() < 10 {
-        return Layout::Misplaced(Fault::Length);
+        return false;
     }
+    word(bytes, 8) == bytes.len()
+}
+
+// Check 2.
+fn counts_right(bytes: &[u8]) -> bool
+    requires { ⌜ 9 < length (now bytes) ⌝ }
+    ensures { λ r. ⌜ r ≡ countsRight (now (bytes .entry)) ⌝ }
+{
     let actions = word(bytes, 0);
     let nodes = word(bytes, 2);
+    ((1 <= actions) & (actions <= 16)) & ((1 <= nodes) & (nodes <= 64))
+}
+
+// Check 3.
+fn areas_right(bytes: &[u8]) -> bool
+    requires { ⌜ 9 < length (now bytes) ⌝ }
+    ensures { λ r. ⌜ r ≡ areasRight (now (bytes .entry)) ⌝ }
+{
     let actions_at = word(bytes, 4);
+    let actions_end = actions_at + 2 * word(bytes, 0);
     let nodes_at = word(bytes, 6);
+    let nodes_end = nodes_at + 5 * word(bytes, 2);
     let total = word(bytes, 8);
-    if total != bytes.len() {
+    let behind = (10 <= actions_at) & (10 <= nodes_at);
+    let inside = (actions_end <= total) & (nodes_end <= total);
+    let apart = (actions_end <= nodes_at) | (nodes_end <= actions_at);
+    behind & inside & apart
+}
+
+// Where the areas are, or the first fault.
+pub fn find_layout(bytes: &[u8]) -> Layout
+    ensures { λ r. ⌜ r ≡ layoutOf (now (bytes .entry)) ⌝ }
+{
+    if !length_right(bytes) {
         return Layout::Misplaced(Fault::Length);
     }
-    if !counts_right(actions, nodes) {
+    let counts = counts_right(bytes);
+    let areas = areas_right(bytes);
+    if !counts {
         return Layout::Misplaced(Fault::Counts);
     }
-    if !areas_right(actions_at, actions_at + 2 * actions, nodes_at, nodes_at + 5 * nodes, total) {
+    if !areas {
         return Layout::Misplaced(Fault::Areas);
     }
     Layout::Laid {
-        actions,
-        nodes,
-        actions_at,
-        nodes_at,
+        actions: word(bytes, 0),
+        nodes: word(bytes, 2),
+        actions_at: word(bytes, 4),
+        nodes_at: word(bytes, 6),
     }
 }

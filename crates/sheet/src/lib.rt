@@ -6,9 +6,10 @@ mod nodes;
 mod types;
 mod checks;
 pub use checks::judge;
-pub use layouts::layout;
+pub use layouts::find_layout;
 pub use nodes::read_node;
 pub use types::type_at;
+pub use types::type_node;
 
 // A node: an action formula (kinds 1 to 6) or a policy (kinds 10 to 23), over the numbers of its parts.
 pub enum Node {

@@ -7,105 +7,50 @@ ghost use Prim.Native.Nat.{_+_, _<_};
 ghost use lib.ListN.{length, getD};
 ghost use Rattle.sheet.specs.Node.{noPart, argumentOnly, onePart, twoParts, threeParts, readFields};
 
+// The node, where check 5 passes.
+fn given(right: bool, node: Node) -> NodeRead
+    ensures { λ r. ⌜ r ≡ Rattle.sheet.specs.Node.given right node ⌝ }
+{
+    if right {
+        NodeRead::Read(node)
+    } else {
+        NodeRead::WrongField
+    }
+}
+
 // A node whose fields are all unused.
 fn no_part(argument: usize, a: usize, b: usize, c: usize, node: Node) -> NodeRead
     ensures { λ r. ⌜ r ≡ noPart argument a b c node ⌝ }
 {
-    if argument != 0 {
-        return NodeRead::WrongField;
-    }
-    if a != 0 {
-        return NodeRead::WrongField;
-    }
-    if b != 0 {
-        return NodeRead::WrongField;
-    }
-    if c != 0 {
-        return NodeRead::WrongField;
-    }
-    NodeRead::Read(node)
+    given((argument == 0) & ((a == 0) & ((b == 0) & (c == 0))), node)
 }
 
 // A node with an argument from low to high and no part.
 fn argument_only(low: usize, high: usize, argument: usize, a: usize, b: usize, c: usize, node: Node) -> NodeRead
     ensures { λ r. ⌜ r ≡ argumentOnly low high argument a b c node ⌝ }
 {
-    if argument < low {
-        return NodeRead::WrongField;
-    }
-    if high < argument {
-        return NodeRead::WrongField;
-    }
-    if a != 0 {
-        return NodeRead::WrongField;
-    }
-    if b != 0 {
-        return NodeRead::WrongField;
-    }
-    if c != 0 {
-        return NodeRead::WrongField;
-    }
-    NodeRead::Read(node)
+    given(((low <= argument) & (argument <= high)) & ((a == 0) & ((b == 0) & (c == 0))), node)
 }
 
 // A node with one part, lower than its own number n.
 fn one_part(n: usize, argument: usize, a: usize, b: usize, c: usize, node: Node) -> NodeRead
     ensures { λ r. ⌜ r ≡ onePart n argument a b c node ⌝ }
 {
-    if argument != 0 {
-        return NodeRead::WrongField;
-    }
-    if n <= a {
-        return NodeRead::WrongField;
-    }
-    if b != 0 {
-        return NodeRead::WrongField;
-    }
-    if c != 0 {
-        return NodeRead::WrongField;
-    }
-    NodeRead::Read(node)
+    given((argument == 0) & ((a < n) & ((b == 0) & (c == 0))), node)
 }
 
 // A node with two parts.
 fn two_parts(n: usize, argument: usize, a: usize, b: usize, c: usize, node: Node) -> NodeRead
     ensures { λ r. ⌜ r ≡ twoParts n argument a b c node ⌝ }
 {
-    if argument != 0 {
-        return NodeRead::WrongField;
-    }
-    if n <= a {
-        return NodeRead::WrongField;
-    }
-    if n <= b {
-        return NodeRead::WrongField;
-    }
-    if c != 0 {
-        return NodeRead::WrongField;
-    }
-    NodeRead::Read(node)
+    given((argument == 0) & ((a < n) & ((b < n) & (c == 0))), node)
 }
 
 // A node with three parts and an argument from 1 to 60.
 fn three_parts(n: usize, argument: usize, a: usize, b: usize, c: usize, node: Node) -> NodeRead
     ensures { λ r. ⌜ r ≡ threeParts n argument a b c node ⌝ }
 {
-    if argument < 1 {
-        return NodeRead::WrongField;
-    }
-    if 60 < argument {
-        return NodeRead::WrongField;
-    }
-    if n <= a {
-        return NodeRead::WrongField;
-    }
-    if n <= b {
-        return NodeRead::WrongField;
-    }
-    if n <= c {
-        return NodeRead::WrongField;
-    }
-    NodeRead::Read(node)
+    given(((1 <= argument) & (argument <= 60)) & ((a < n) & ((b < n) & (c < n))), node)
 }
 
 // Node n, from its five fields: the kind, the argument, the parts.

@@ -1,0 +1,104 @@
+-- Checks 1 to 3: their tests in plain statements, and the places that they give.
+-- Assumes nothing.
+use mathlib.Core.Path.{_≡_, refl, sym, _∙_}
+use mathlib.Core.Bool.{Bool, true, false, cond, _&&_, _||_}
+use mathlib.Core.Logic.{_⊎_, inl, inr, ⊎-map}
+use mathlib.Core.List.{List}
+use Prim.Native.Nat.{ℕ, _≤_, _<_}
+use native.Mathlib.Omega.{arith}
+use lib.Dec.{leb, eqb}
+use lib.ListN.{length}
+use borrow.Author.Tests.{leb-true, le-leb, eqb-true, eq-eqb}
+use Rattle.trace.proofs.Laws.{not-both}
+use Rattle.sheet.specs.Sheet.{actionCount, nodeCount, actionsAt, nodesAt, actionsEnd, nodesEnd, total, lengthRight, countsRight, areasRight, behindHeader, insideTotal, apart, inRange}
+use Rattle.sheet.specs.Judge.{layoutOf, NodesLaid}
+use Rattle.sheet.specs.Plain.{WellLaid}
+use Rattle.sheet.specs.declared.Layout.{Layout}
+use Rattle.sheet.specs.declared.Layout.the-variants.{Laid, Misplaced}
+use Rattle.sheet.specs.declared.Fault.{Fault}
+use Rattle.sheet.specs.declared.Fault.the-variants.{Length, Counts, Areas}
+
+pub and-true : (a b : Bool) → a && b ≡ true → (a ≡ true) × (b ≡ true)
+and-true true b e = (refl, e)
+and-true false b e = not-both (sym e)
+
+pub both-true : {a b : Bool} → a ≡ true → b ≡ true → a && b ≡ true
+both-true p q = rw (p, q)
+
+or-true : (a b : Bool) → a || b ≡ true → (a ≡ true) ⊎ (b ≡ true)
+or-true true b e = inl refl
+or-true false b e = inr e
+
+either-true : (a b : Bool) → (a ≡ true) ⊎ (b ≡ true) → a || b ≡ true
+either-true true b h = refl
+either-true false b (inl e) = not-both (sym e)
+either-true false b (inr e) = e
+
+pub long-enough : (bytes : List ℕ) → lengthRight bytes ≡ true → 9 < length bytes
+long-enough bytes e = leb-true 10 (length bytes) (and-true _ (eqb (total bytes) (length bytes)) e .0)
+
+misplaced : {A : Type 0} {f : Fault} {a n p q : ℕ} → Misplaced f ≡ Laid a n p q → A
+misplaced e = absurd (let z : _≡_ {A = ℕ} 0 1 = cc in omega arith)
+
+from-conds : (x y z : Bool) {l : Layout} {a n p q : ℕ} → cond x (cond y (cond z l (Misplaced Areas)) (Misplaced Counts)) (Misplaced Length) ≡ Laid a n p q
+    → (x ≡ true) × (y ≡ true) × (z ≡ true) × (l ≡ Laid a n p q)
+from-conds true true true e = (refl, refl, refl, e)
+from-conds true true false e = misplaced e
+from-conds true false z e = misplaced e
+from-conds false y z e = misplaced e
+
+module _ (bytes : List ℕ) where
+  pub well-laid : lengthRight bytes ≡ true → countsRight bytes ≡ true → areasRight bytes ≡ true → WellLaid bytes
+  well-laid l c a =
+      let l′ = and-true (leb 10 (length bytes)) (eqb (total bytes) (length bytes)) l in
+      let c′ = and-true (inRange 1 16 (actionCount bytes)) (inRange 1 64 (nodeCount bytes)) c in
+      let c₀ = and-true (leb 1 (actionCount bytes)) (leb (actionCount bytes) 16) (c′ .0) in
+      let c₁ = and-true (leb 1 (nodeCount bytes)) (leb (nodeCount bytes) 64) (c′ .1) in
+      let a′ = and-true (behindHeader bytes && insideTotal bytes) (apart bytes) a in
+      let a″ = and-true (behindHeader bytes) (insideTotal bytes) (a′ .0) in
+      let a₀ = and-true (leb 10 (actionsAt bytes)) (leb 10 (nodesAt bytes)) (a″ .0) in
+      let a₁ = and-true (leb (actionsEnd bytes) (total bytes)) (leb (nodesEnd bytes) (total bytes)) (a″ .1) in
+      record {
+        long = leb-true _ _ (l′ .0);
+        whole = eqb-true _ _ (l′ .1);
+        some-action = leb-true _ _ (c₀ .0);
+        few-actions = leb-true _ _ (c₀ .1);
+        some-node = leb-true _ _ (c₁ .0);
+        few-nodes = leb-true _ _ (c₁ .1);
+        actions-behind = leb-true _ _ (a₀ .0);
+        nodes-behind = leb-true _ _ (a₀ .1);
+        actions-inside = leb-true _ _ (a₁ .0);
+        nodes-inside = leb-true _ _ (a₁ .1);
+        apart = ⊎-map (leb-true (actionsEnd bytes) (nodesAt bytes)) (leb-true (nodesEnd bytes) (actionsAt bytes)) (or-true (leb (actionsEnd bytes) (nodesAt bytes)) (leb (nodesEnd bytes) (actionsAt bytes)) (a′ .1))
+      }
+
+  pub length-right : WellLaid bytes → lengthRight bytes ≡ true
+  length-right w = both-true (le-leb 10 (length bytes) (w .long)) (eq-eqb (total bytes) (length bytes) (w .whole))
+
+  pub counts-right : WellLaid bytes → countsRight bytes ≡ true
+  counts-right w =
+      both-true (both-true (le-leb 1 (actionCount bytes) (w .some-action)) (le-leb (actionCount bytes) 16 (w .few-actions)))
+      (both-true (le-leb 1 (nodeCount bytes) (w .some-node)) (le-leb (nodeCount bytes) 64 (w .few-nodes)))
+
+  pub areas-right : WellLaid bytes → areasRight bytes ≡ true
+  areas-right w =
+      both-true
+      (both-true (both-true (le-leb 10 (actionsAt bytes) (w .actions-behind)) (le-leb 10 (nodesAt bytes) (w .nodes-behind)))
+      (both-true (le-leb (actionsEnd bytes) (total bytes) (w .actions-inside)) (le-leb (nodesEnd bytes) (total bytes) (w .nodes-inside))))
+      (either-true (leb (actionsEnd bytes) (nodesAt bytes)) (leb (nodesEnd bytes) (actionsAt bytes))
+      (⊎-map (le-leb (actionsEnd bytes) (nodesAt bytes)) (le-leb (nodesEnd bytes) (actionsAt bytes)) (w .apart)))
+
+  -- Checks 1 to 3 pass exactly where the areas are found.
+  pub laid : WellLaid bytes → layoutOf bytes ≡ Laid (actionCount bytes) (nodeCount bytes) (actionsAt bytes) (nodesAt bytes)
+  laid w = rw (length-right w, counts-right w, areas-right w)
+
+  pub from-laid : {a n p q : ℕ} → layoutOf bytes ≡ Laid a n p q → WellLaid bytes × (n ≡ nodeCount bytes) × (q ≡ nodesAt bytes)
+  from-laid e =
+      let h = from-conds (lengthRight bytes) (countsRight bytes) (areasRight bytes) e in
+      (well-laid (h .0) (h .1) (h .2), (let g = h .3 in cc), (let g = h .3 in cc))
+
+  pub nodes-laid : {a n p q : ℕ} → layoutOf bytes ≡ Laid a n p q → NodesLaid bytes n q
+  nodes-laid e =
+      let h = from-laid e in
+      let w = h .0 in
+      record { from = h .2; some = omega (arith, w .some-node, h .1); few = omega (arith, w .few-nodes, h .1); inside = omega (arith, w .nodes-inside, w .whole, h .1, h .2) }

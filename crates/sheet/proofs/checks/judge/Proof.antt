@@ -1,0 +1,27 @@
+-- `sheet::checks::judge` meets its contract: where the areas are found, the nodes are judged.
+-- Assumes nothing.
+use mathlib.Core.Path.{sym, _∙_}
+use borrow.Author.Needs.{needs}
+use Rattle.sheet.proofs.Header.{nodes-laid}
+use Rattle.sheet.proofs.checks.judge.Statement.{statement}
+use Rattle.sheet.proofs.checks.judge.Tie as tie
+
+judge-nodes-requires : tie.Need-judge-nodes-requires
+judge-nodes-requires c κs = nodes-laid _ (sym (c .before .before .before .find-layout .ensures) ∙ c .before .nodes .given .1)
+
+returns : tie.Need-returns
+returns c = c .judge-nodes .ensures ∙ rw (sym (c .before .before .before .before .find-layout .ensures) ∙ c .before .before .nodes .given .1)
+
+returns-2 : tie.Need-returns-2
+returns-2 c = rw (sym (c .before .before .before .find-layout .ensures) ∙ c .before .fault .given .1)
+
+pub judge-spec : {M : Type 1} → statement M
+judge-spec =
+    tie.close
+    (tie.spec
+    (λ c κs. search needs)
+    (λ c. search needs)
+    judge-nodes-requires
+    (λ c. search needs)
+    returns
+    returns-2)
