@@ -54,7 +54,10 @@ fn numbered(entries: &[u8], rows: usize, actions: usize) -> bool
         }
         k += 1;
     }
-    met == rows
+    if met < rows {
+        return false;
+    }
+    true
 }
 
 // The entries as next states.
@@ -103,7 +106,10 @@ fn distinct(entries: &[u8], rows: usize, actions: usize) -> bool
     let Refined::Classes(count) = found else {
         return false;
     };
-    count == rows
+    if count < rows {
+        return false;
+    }
+    true
 }
 
 // Check 11: whether the rows are in the stated numbering and no two are alike.

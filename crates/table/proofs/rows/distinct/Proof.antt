@@ -8,9 +8,8 @@ use native.Mathlib.Omega.{arith}
 use lib.ListN.{length, take, drop, length-append}
 use lib.Seq.{length-take-le, take-at}
 use borrow.Author.Needs.{needs}
-use Rattle.base.proofs.Decide.{decides-eqb}
 use Rattle.automaton.specs.Machine.{AlikeStates}
-use Rattle.automaton.specs.Partition.{Refinable, SplitsTo}
+use Rattle.automaton.specs.Partition.{Refinable, Partition, SplitsTo}
 use Rattle.automaton.proofs.Splits.{split-over, split-classes}
 use Rattle.table.proofs.Apart.{all-apart, not-all-apart, not-over}
 use Rattle.table.proofs.rows.distinct.Statement.{statement}
@@ -116,11 +115,29 @@ returns c =
     let w = widened (c .before .before .before .before .before) in
     λ d. not-over (entry w .args .rows) (entry w .args .actions) (entries w) (split-over _ _ _ _ _ _ (c .enum-told .given .1) (splits (c .before .before .before .before .before)))
 
+-- it found classes
+module _ (c : tie.After-known-told) where
+  abbrev refined : tie.After-refine
+  refined = c .before .before .before .before .before .before
+
+  abbrev like : ℕ → ℕ → Type 0
+  like = AlikeStates 255 (entry (widened refined) .args .actions) (entries (widened refined))
+
+  abbrev rows : ℕ
+  rows = entry (widened refined) .args .rows
+
+  classes : (c .before .found .given .0 .0 ≤ rows) × Partition like rows (c .before .found .given .0 .0) (refined .refine .last .1 .1 .1 .0) (refined .refine .last .1 .1 .1 .1 .1 .0)
+  classes = split-classes _ _ _ _ _ _ _ (c .before .found .given .1) (splits refined)
+
 returns-2 : tie.Need-returns-2
 returns-2 c =
-    let r = c .before .before .before .before .before .before in
-    let s = split-classes _ _ _ _ _ _ _ (c .before .found .given .1) (splits r) in
-    decides-eqb _ (c .before .found .given .0 .0) _ (all-apart _ _ _ _ _ _ (s .1)) (not-all-apart _ _ _ _ _ _ (s .1) (s .0))
+    let s = classes (c .before) in
+    not-all-apart _ _ _ _ _ _ (s .1) (s .0) (λ e. omega arith)
+
+returns-3 : tie.Need-returns-3
+returns-3 c =
+    let s = classes (c .before) in
+    all-apart _ _ _ _ _ _ (s .1) (omega arith)
 
 pub distinct-spec : {M : Type 1} → statement M
 distinct-spec =
@@ -144,4 +161,5 @@ distinct-spec =
     enum-known-found
     enum-told
     returns
-    returns-2)
+    returns-2
+    returns-3)
