@@ -45,8 +45,10 @@ module _ (rows actions : ℕ) (entries : List ℕ) (fit : RowsFit rows actions e
 
           found : (s : ℕ) → 0 < s → s < met + 1 → FirstMet 255 actions entries s
           found s p q =
-              elim (ℕ-discrete s met) [ yes r ↦ subst (λ (x : ℕ). FirstMet 255 actions entries x) (sym r) (record { at = k; here = e; early = h; new = sc .below })
-              | no r ↦ sc .found s p (omega arith) ]
+              elim (ℕ-discrete s met) [
+                | yes r ↦ subst (λ (x : ℕ). FirstMet 255 actions entries x) (sym r) (record { at = k; here = e; early = h; new = sc .below })
+                | no r ↦ sc .found s p (omega arith)
+              ]
 
       -- a row is met before the one that should be
       pub scan-skips : met < getD entries k 255 → Numbered 255 rows actions entries → ⊥

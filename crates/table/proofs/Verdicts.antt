@@ -58,8 +58,8 @@ module _ (s t : List ℕ) (fs : WellFormed s) (ft : WellFormed t) (acts : action
   starts v =
       record {
         same = λ w p.
-          same-trip (type12 (typeOf s) (fs .header .type-low) (fs .header .type-high)) (trips (rowStep s) 0 w) (trips (transition 255 (actionsOf s) (entriesOf t)) 0 w)
-          (v .same w p ∙ rw (← types v, ← acts))
+            same-trip (type12 (typeOf s) (fs .header .type-low) (fs .header .type-high)) (trips (rowStep s) 0 w) (trips (transition 255 (actionsOf s) (entriesOf t)) 0 w)
+            (v .same w p ∙ rw (← types v, ← acts));
       }
 
   other : Machine 255 (rowsOf t) (actionsOf s) (entriesOf t)

@@ -102,7 +102,14 @@ fn distinct(entries: &[u8], rows: usize, actions: usize) -> bool
     let mut firsts = room_for_firsts();
     let n = entries.len();
     widen(entries, &mut next[..n]);
-    let found = automaton::refine(&next[..n], actions, rows, &mut classes[..rows], &mut other[..rows], &mut firsts);
+    let found = automaton::refine(
+        &next[..n],
+        actions,
+        rows,
+        &mut classes[..rows],
+        &mut other[..rows],
+        &mut firsts,
+    );
     let Refined::Classes(count) = found else {
         return false;
     };

@@ -101,7 +101,7 @@ module _ (c : tie.After-refine) where
   widened = c .before .before .before .before .before .before
 
   splits : SplitsTo (AlikeStates 255 (entry widened .args .actions) (entries widened)) (entry widened .args .rows) (entry widened .args .rows) (c .refine .result)
-    (c .refine .last .1 .1 .1 .0) (c .refine .last .1 .1 .1 .1 .1 .0)
+      (c .refine .last .1 .1 .1 .0) (c .refine .last .1 .1 .1 .1 .1 .0)
   splits = (rw (front widened, all-rows widened) at (c .refine .ensures)) 255 (entry widened .pre .machine)
 
 enum-known-found : tie.Need-enum-known-found

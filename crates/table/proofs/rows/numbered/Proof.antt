@@ -67,16 +67,17 @@ loop-less c = search needs
 loop-again : tie.Need-loop-again Inv-loop μ-loop
 loop-again c =
     let b = c .before in
-    let fit = b .before .before .before .before .before .pre in
-    (search needs,
-    ⊎-elim
-    (λ w.
-      rw (w .4)
-      (scan-new _ _ _ fit _ _ (scanned b) (b .before .before .loop-test .taken) (λ e. w .0 .taken (read b ∙ e)) (sym (read b) ∙ w .2 .taken) (omega (arith, w .3 .left))))
-    (⊎-elim
-    (λ w. rw (w .3) (scan-known _ _ _ fit _ _ (scanned b) (λ e. w .0 .taken (read b ∙ e)) (omega (arith, w .1 .left, w .2 .left, read b))))
-    (λ w. rw (w .1) (scan-trip _ _ _ fit _ _ (scanned b) (sym (read b) ∙ w .0 .left))))
-    (c .if1 .came))
+    let fit = b .before .before .before .before .before .pre in (
+      search needs,
+      ⊎-elim
+          (λ w.
+          rw (w .4)
+          (scan-new _ _ _ fit _ _ (scanned b) (b .before .before .loop-test .taken) (λ e. w .0 .taken (read b ∙ e)) (sym (read b) ∙ w .2 .taken) (omega (arith, w .3 .left))))
+          (⊎-elim
+          (λ w. rw (w .3) (scan-known _ _ _ fit _ _ (scanned b) (λ e. w .0 .taken (read b ∙ e)) (omega (arith, w .1 .left, w .2 .left, read b))))
+          (λ w. rw (w .1) (scan-trip _ _ _ fit _ _ (scanned b) (sym (read b) ∙ w .0 .left))))
+          (c .if1 .came),
+    )
 
 -- every entry is read
 module _ (c : tie.After-loop Inv-loop μ-loop) where
