@@ -11,10 +11,10 @@ use Rattle.base.proofs.clear.Statement.{statement}
 use Rattle.base.proofs.clear.Tie as tie
 
 abbrev Inv-loop : tie.InvT-loop
-Inv-loop bytek₀ k₀ classes s = (s ≤ length bytek₀) × (length classes ≡ length bytek₀) × (classes ≡ replicate s 0 ++ drop s bytek₀)
+Inv-loop bytes₀ k₀ bytes k = (k ≤ length bytes₀) × (length bytes ≡ length bytes₀) × (bytes ≡ replicate k 0 ++ drop k bytes₀)
 
 abbrev μ-loop : tie.MeasureT-loop
-μ-loop bytek₀ k₀ classes s = length bytek₀ - s
+μ-loop bytes₀ k₀ bytes k = length bytes₀ - k
 
 loop-holds : tie.Need-loop-holds Inv-loop μ-loop
 loop-holds c = (omega arith, refl, fill-none _ 0)
