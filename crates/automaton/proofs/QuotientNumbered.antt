@@ -14,7 +14,7 @@ use Rattle.automaton.specs.Partition.{classOf, firstOf, Partition}
 use Rattle.automaton.specs.Quotient.{quotientRows}
 use Rattle.automaton.proofs.Classes.{first-order}
 use Rattle.automaton.proofs.Entries.{alike-matched-from, met-goes, state-below, index-below, action-below, split-index}
-use Rattle.automaton.proofs.QuotientReads.{alike-class, mark-class, row-at, row-entry}
+use Rattle.automaton.proofs.QuotientReads.{alike-class, trip-class, row-at, row-entry}
 
 module _ {mark states actions count : ℕ} {next classes firsts : List ℕ} (acts : 0 < actions) (mc : Machine mark states actions next)
     (pa : Partition (AlikeStates mark actions next) states count classes firsts) (sized : length classes ≡ states) (few : count ≤ 64) where
@@ -136,7 +136,7 @@ module _ {mark states actions count : ℕ} {next classes firsts : List ℕ} (act
           x = getD next i mark
 
           x-below : x < f
-          x-below = fm .new i i-before (λ g. q (entry ∙ ap (classOf classes) g ∙ mark-class acts mc pa sized few))
+          x-below = fm .new i i-before (λ g. q (entry ∙ ap (classOf classes) g ∙ trip-class acts mc pa sized few))
 
           x-inside : x < states
           x-inside = lt-trans x-below (pa .inside c h)
