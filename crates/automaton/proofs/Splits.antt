@@ -1,6 +1,6 @@
 -- Laws of partitions of the states by a relation, and of more than `limit` states no two of which are related.
 -- Assumes nothing.
-use mathlib.Core.Path.{_≡_, refl, subst}
+use mathlib.Core.Path.{_≡_, refl, sym, subst, _∙_}
 use mathlib.Core.List.{List}
 use Prim.Native.Nat.{ℕ, suc, _≤_, _<_}
 use native.Mathlib.Decide.{ℕ-discrete}
@@ -60,20 +60,30 @@ module _ (R : ℕ → ℕ → Type 0) (states : ℕ) where
             | no q ↦ rw (update-other f limit s d q) (apart c d l (omega arith))
           ])
 
--- no more states are pairwise not related than there are classes
-pub over-not-partition : {R : ℕ → ℕ → Type 0} {states count : ℕ} {classes firsts : List ℕ}
-    → Partition R states count classes firsts → Equivalence R → (limit : ℕ) → Over R states limit → count ≤ limit → ⊥
-over-not-partition {R} {states} {count} {classes} {firsts} p eq limit o h =
-    let g = pigeon (suc limit) count (λ i j. classOf classes (o .pick i) ≡ j) hit clash in
+-- where states of one number are related, no more states are pairwise not related than there are numbers
+pub over-not-numbered : {R : ℕ → ℕ → Type 0} {states limit : ℕ} → Over R states limit
+    → (count : ℕ) (f : ℕ → ℕ)
+    → ((s : ℕ) → s < states → f s < count)
+    → ((s t : ℕ) → s < states → t < states → f s ≡ f t → R s t)
+    → count ≤ limit → ⊥
+over-not-numbered {limit = limit} o count f below related h =
+    let g = pigeon (suc limit) count (λ i j. f (o .pick i) ≡ j) hit clash in
     omega arith
   where
-    hit : (i : ℕ) → i < suc limit → (j : ℕ) × (j < count) × (classOf classes (o .pick i) ≡ j)
-    hit i l = (classOf classes (o .pick i), p .below (o .pick i) (o .inside i (omega arith)), refl)
+    hit : (i : ℕ) → i < suc limit → (j : ℕ) × (j < count) × (f (o .pick i) ≡ j)
+    hit i l = (f (o .pick i), below (o .pick i) (o .inside i (omega arith)), refl)
 
-    clash : (i k j : ℕ) → i < k → k < suc limit → j < count → classOf classes (o .pick i) ≡ j → classOf classes (o .pick k) ≡ j → ⊥
-    clash i k j l m n a b =
-        o .apart i k l (omega arith)
-        (class-related p eq (o .pick i) (o .pick k) (o .inside i (omega arith)) (o .inside k (omega arith)) (cc))
+    clash : (i k j : ℕ) → i < k → k < suc limit → j < count → f (o .pick i) ≡ j → f (o .pick k) ≡ j → ⊥
+    clash i k j l m n a b = o .apart i k l (omega arith) (related (o .pick i) (o .pick k) (o .inside i (omega arith)) (o .inside k (omega arith)) (a ∙ sym b))
+
+-- nor than there are classes
+pub over-not-partition : {R : ℕ → ℕ → Type 0} {states count : ℕ} {classes firsts : List ℕ}
+    → Partition R states count classes firsts → Equivalence R → (limit : ℕ) → Over R states limit → count ≤ limit → ⊥
+over-not-partition {count = count} {classes} p eq limit o = over-not-numbered o count (classOf classes) (p .below) (class-related p eq)
+
+-- nor than there are
+pub over-not-all : {R : ℕ → ℕ → Type 0} {states : ℕ} → Equivalence R → Over R states states → ⊥
+over-not-all {R} {states} eq o = over-not-numbered o states (λ s. s) (λ s h. h) (λ s t h g e. subst (λ (x : ℕ). R s x) e (eq .reflexive s)) (omega arith)
 
 -- A relation that says the same of states has the same partitions.
 module _ (R Q : ℕ → ℕ → Type 0) (states : ℕ) (to : (s t : ℕ) → s < states → t < states → R s t → Q s t) where

@@ -1,7 +1,6 @@
 -- `load_cases::answer::show_zeros` is safe: the part that it lends is as long as asked.
 -- Assumes nothing.
 use mathlib.Core.Path.{sym}
-use native.Mathlib.Omega.{arith}
 use lib.Seq.{length-take-le}
 use borrow.Author.Needs.{needs}
 use Rattle.load_cases.proofs.answer.show_zeros.Statement.{statement}

@@ -1,12 +1,9 @@
 -- `table::format::check` meets its contract: the header, then the length, then the entries.
 -- Assumes nothing.
 use borrow.Author.Needs.{needs}
-use mathlib.Core.Path.{_≡_, sym, _∙_}
-use Prim.Native.Nat.{ℕ}
 use native.Mathlib.Omega.{arith}
 use Rattle.base.proofs.Lists.{tail}
-use Rattle.table.specs.Table.{WellFormed, HeaderFits}
-use Rattle.table.specs.Answer.{FieldsOf, FormedAs}
+use Rattle.table.specs.Answer.{FieldsOf}
 use Rattle.table.proofs.Formed.{area, whole-of, formed, misfit}
 use Rattle.table.proofs.format.check.Statement.{statement}
 use Rattle.table.proofs.format.check.Tie as tie

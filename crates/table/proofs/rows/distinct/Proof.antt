@@ -1,17 +1,18 @@
 -- `table::rows::distinct` meets its contract: the entries as next states, refined with as many classes as rows.
 -- Assumes nothing.
-use mathlib.Core.Path.{_≡_, refl, sym, _∙_, ap}
+use mathlib.Core.Path.{_≡_, sym, _∙_, ap}
 use mathlib.Core.List.{List, _++_}
 use Prim.Native.Nat.{ℕ, _*_, _≤_}
 use native.Mathlib.Nat.{mul-le-mul}
 use native.Mathlib.Omega.{arith}
-use lib.ListN.{length, take, drop, length-append}
+use lib.ListN.{length, take, length-append}
 use lib.Seq.{length-take-le, take-at}
 use borrow.Author.Needs.{needs}
 use Rattle.automaton.specs.Machine.{AlikeStates}
-use Rattle.automaton.specs.Partition.{Refinable, Partition, SplitsTo}
-use Rattle.automaton.proofs.Splits.{split-over, split-classes}
-use Rattle.table.proofs.Apart.{all-apart, not-all-apart, not-over}
+use Rattle.automaton.specs.Partition.{Partition, SplitsTo}
+use Rattle.automaton.proofs.Classes.{alike-equivalence}
+use Rattle.automaton.proofs.Splits.{split-over, split-classes, over-not-all}
+use Rattle.table.proofs.Apart.{all-apart, not-all-apart}
 use Rattle.table.proofs.rows.distinct.Statement.{statement}
 use Rattle.table.proofs.rows.distinct.Tie as tie
 
@@ -111,9 +112,9 @@ enum-told : tie.Need-enum-told
 enum-told c = search needs
 
 returns : tie.Need-returns
-returns c =
-    let w = widened (c .before .before .before .before .before) in
-    λ d. not-over (entry w .args .rows) (entry w .args .actions) (entries w) (split-over _ _ _ _ _ _ (c .enum-told .given .1) (splits (c .before .before .before .before .before)))
+returns c d =
+    let r = c .before .before .before .before .before in
+    over-not-all (alike-equivalence 255 (entry (widened r) .args .actions) (entries (widened r))) (split-over _ _ _ _ _ _ (c .enum-told .given .1) (splits r))
 
 -- it found classes
 module _ (c : tie.After-known-told) where

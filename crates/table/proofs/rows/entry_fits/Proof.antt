@@ -1,10 +1,9 @@
 -- `table::rows::entry_fits` meets its contract.
 -- Assumes nothing.
 use mathlib.Core.Path.{_≡_}
-use Prim.Native.Nat.{ℕ, _≤_, _<_}
+use Prim.Native.Nat.{ℕ, _≤_}
 use native.Mathlib.Decide.{ℕ-discrete}
 use native.Mathlib.Omega.{arith}
-use borrow.Author.Needs.{needs}
 use Rattle.table.specs.Table.{EntryFits}
 use Rattle.base.proofs.Decide.{decides-eqb}
 use Rattle.table.proofs.rows.entry_fits.Statement.{statement}
