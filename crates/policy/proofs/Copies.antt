@@ -40,7 +40,7 @@ join-comm (go q) (go r) (go set) = ap go (insert-comm q r set)
 
 -- the copies of a set with one row more: that row's copy moved, joined to the others
 module _ (f : Part) (a : ℕ) where
-  move-empty : (n : ℕ) → moveBelow f 0 a n ≡ go (insert 0 0)
+  pub move-empty : (n : ℕ) → moveBelow f 0 a n ≡ go (insert 0 0)
   move-empty zero = refl
   move-empty (suc n) = rw (bit-empty n) (move-empty n)
 
@@ -49,7 +49,7 @@ module _ (f : Part) (a : ℕ) where
   move-above r set (suc n) h =
       rw (bit-insert r set n, ne-eqb n r (omega arith), move-above r set n (omega arith)) refl
 
-  move-insert : (r set n : ℕ) → r < n → moveBelow f (insert r set) a n ≡ join (f r a) (moveBelow f set a n)
+  pub move-insert : (r set n : ℕ) → r < n → moveBelow f (insert r set) a n ≡ join (f r a) (moveBelow f set a n)
   move-insert r set zero h = absurd (omega arith)
   move-insert r set (suc n) h = elim (ℕ-discrete n r) [ yes p ↦ here p | no q ↦ below q (move-insert r set n) ]
     where

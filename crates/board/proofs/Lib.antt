@@ -1,0 +1,11 @@
+pub mod PlaceLaws
+pub mod HistoryRules
+pub mod HistoryPlaces
+pub mod HistoryState
+pub mod HistorySets
+pub mod HistoryActions
+pub mod HistoryRefusals
+pub mod HistoryReports
+pub mod HistoryDetermined
+pub mod HistoryUnchanged
+pub mod History

@@ -1,0 +1,4 @@
+pub mod Places
+pub mod Possible
+pub mod Calls
+pub mod History

@@ -1,0 +1,2 @@
+pub mod Minimising
+pub mod Building

@@ -1,0 +1,12 @@
+// The compiler: from a rule sheet to its table.
+use sheet::Fault;
+use trace::Mode;
+
+// What compiling answers: a table, or a refusal.
+pub enum Compiled {
+    Table { mode: Mode, actions: usize, rows: usize },
+    ShortArea,
+    Faulty(Fault),
+    TooManyValues(usize),
+    TooManyRows(usize),
+}

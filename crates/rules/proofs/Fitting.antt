@@ -1,0 +1,140 @@
+-- A rule that fits remembers values that fit, so that its step on numbers reads every sequence as its step on values does.
+-- Assumes nothing.
+use mathlib.Core.Path.{_≡_, refl, sym, _∙_, ap, subst}
+use mathlib.Core.Bool.{Bool, true, false, cond}
+use mathlib.Core.List.{List, [], _∷_, _++_}
+use mathlib.Core.Option.{Option, none, some}
+use Prim.Native.Nat.{ℕ, _≤_, _<_}
+use native.Mathlib.Omega.{arith}
+use lib.Dec.{leb}
+use lib.ListN.{length, drop}
+use borrow.Author.Tests.{leb-false}
+use Rattle.trace.specs.Trace.{Move, trip, go, after, run, tripped, trips}
+use Rattle.policy.specs.Words.{first, without}
+use Rattle.policy.specs.Rule.{Rule, opening, counting, same, both, either, copied, until, then, timed, filtered, onParts, ruleTrips}
+use Rattle.policy.specs.Parts.{Positive}
+use Rattle.policy.specs.Closed.{Closed, Sound, answer}
+use Rattle.policy.specs.Value.{Part, partTrips, placeOf, rowOf, rows, released, rememberedThen, rememberedLate, rememberedTimed, Value, remembered, start, stepOf}
+use Rattle.policy.proofs.Copies.{row-below, copies-width}
+use Rattle.policy.proofs.Steps.{steps-right, steps-trip, step-right}
+use Rattle.rules.specs.Codes.{encode, decode, PlaceFits, UntilFits, ThenFits, TimedFits, ValueFits, CountFits, FitRule}
+use Rattle.rules.specs.Steps.{encodeMove, codeStepOf}
+use Rattle.rules.proofs.Encoding.{decode-encode}
+
+positive : (rule : Rule Part) → CountFits rule → Positive rule
+positive (opening hit) h = tt
+positive (counting k) h = h .0
+positive (same f) h = tt
+positive (both f g) h = tt
+positive (either f g) h = tt
+positive (copied f) h = tt
+positive (until f g) h = tt
+positive (then f g) h = tt
+positive (timed k f g i) h = tt
+positive (filtered hit f) h = tt
+
+pub fit-sound : (rule : Rule Part) → FitRule rule → Sound rule
+fit-sound rule fit = record { positive = positive rule (fit .counted); closed = fit .closed }
+
+-- the row of a part, and its row or trip
+row-fits : (f : Part) → (n : ℕ) × Closed n f → (w : List ℕ) → rowOf (placeOf f w) < 64
+row-fits f c w = let g = c .1 .few in let h = row-below (c .0) f (c .1) w in omega arith
+
+place-fits : (m : Move ℕ) → rowOf m < 64 → PlaceFits m
+place-fits trip h = tt
+place-fits (go r) h = h
+
+until-fits : (b : Bool) (q r : ℕ) → q < 64 → r < 64 → UntilFits (cond b released (rows q r))
+until-fits true q r g h = tt
+until-fits false q r g h = (g, h)
+
+then-fits : (o : Option ℕ) (f g : Part) → (n : ℕ) × Closed n f → (n : ℕ) × Closed n g → (w : List ℕ) → ThenFits (rememberedThen o f g w)
+then-fits none f g c d w = row-fits f c w
+then-fits (some n) f g c d w = row-fits g d (drop n w)
+
+module _ (k : ℕ) (f g i : Part) (few : k ≤ 60) (c : (n : ℕ) × Closed n f) (d : (n : ℕ) × Closed n g) (e : (n : ℕ) × Closed n i) where
+  late-fits : (w : List ℕ) → TimedFits (rememberedLate k f i w)
+  late-fits w = by (leb k (length w)) refl
+    where
+      by : (b : Bool) → leb k (length w) ≡ b → TimedFits (rememberedLate k f i w)
+      by true p = rw p (row-fits i e (drop k w))
+      by false p = let h = leb-false k (length w) p in rw p (row-fits f c w, omega arith)
+
+  timed-fits : (o : Option ℕ) (w : List ℕ) → TimedFits (rememberedTimed o k f g i w)
+  timed-fits none w = late-fits w
+  timed-fits (some n) w = by (leb n k) refl
+    where
+      by : (b : Bool) → leb n k ≡ b → TimedFits (rememberedTimed (some n) k f g i w)
+      by true p = rw p (row-fits g d (drop n w))
+      by false p = rw p (late-fits w)
+
+fits : (rule : Rule Part) → FitRule rule → (w : List ℕ) → ruleTrips (onParts partTrips rule) w ≡ false → ValueFits rule (remembered rule w)
+fits (opening hit) fit w e = tt
+fits (counting k) fit w e = let g = fit .counted .1 in let h = leb-false k (length w) e in omega arith
+fits (same f) fit w e = row-fits f (fit .closed) w
+fits (both f g) fit w e = (place-fits (placeOf f w) (row-fits f (fit .closed .0) w), place-fits (placeOf g w) (row-fits g (fit .closed .1) w))
+fits (either f g) fit w e = (place-fits (placeOf f w) (row-fits f (fit .closed .0) w), place-fits (placeOf g w) (row-fits g (fit .closed .1) w))
+fits (copied f) fit w e = copies-width (fit .closed .0) f (fit .closed .1) w
+fits (until f g) fit w e = until-fits (partTrips f w) (rowOf (placeOf f w)) (rowOf (placeOf g w)) (row-fits f (fit .closed .0) w) (row-fits g (fit .closed .1) w)
+fits (then f g) fit w e = then-fits (first (partTrips f) w) f g (fit .closed .0) (fit .closed .1) w
+fits (timed k f g i) fit w e = timed-fits k f g i (fit .counted .1) (fit .closed .0) (fit .closed .1) (fit .closed .2) (first (partTrips f) w) w
+fits (filtered hit f) fit w e = row-fits f (fit .closed) (without hit w)
+
+-- a move to a value that fits
+abbrev MoveFits : (rule : Rule Part) → Move (Value rule) → Type 0
+MoveFits rule trip = Unit {0}
+MoveFits rule (go v) = ValueFits rule v
+
+module _ (rule : Rule Part) where
+  -- on a value that fits, the step on numbers is the step on values
+  pub code-step : (v : Value rule) (a : ℕ) → ValueFits rule v → codeStepOf rule (encode rule v) a ≡ encodeMove rule (stepOf rule v a)
+  code-step v a h = ap (λ (u : Value rule). encodeMove rule (stepOf rule u a)) (decode-encode rule v h)
+
+  code-after : (m : Move (Value rule)) (a : ℕ) → MoveFits rule m
+      → after (encodeMove rule m) (λ c. codeStepOf rule c a) ≡ encodeMove rule (after m (λ v. stepOf rule v a))
+  code-after trip a h = refl
+  code-after (go v) a h = code-step v a h
+
+  code-runs : (w : List ℕ) (m : Move (Value rule)) → ((u : List ℕ) → MoveFits rule (run (stepOf rule) m u))
+      → run (codeStepOf rule) (encodeMove rule m) w ≡ encodeMove rule (run (stepOf rule) m w)
+  code-runs [] m h = refl
+  code-runs (a ∷ w) m h = rw (code-after m a (h [])) (code-runs w (after m (λ v. stepOf rule v a)) (λ u. h (a ∷ u)))
+
+  encode-tripped : (m : Move (Value rule)) → tripped (encodeMove rule m) ≡ tripped m
+  encode-tripped trip = refl
+  encode-tripped (go v) = refl
+
+  module _ (fit : FitRule rule) where
+    -- what is remembered of a sequence that has not tripped fits, at the start and behind every action
+    pub remembered-fits : (w : List ℕ) → ruleTrips (onParts partTrips rule) w ≡ false → ValueFits rule (remembered rule w)
+    remembered-fits = fits rule fit
+
+    pub start-fits : ValueFits rule (start rule)
+    start-fits = remembered-fits [] (sym (steps-trip rule (fit-sound rule fit) []))
+
+    answer-fits : (w : List ℕ) (b : Bool) → ruleTrips (onParts partTrips rule) w ≡ b → MoveFits rule (answer b (remembered rule w))
+    answer-fits w true e = tt
+    answer-fits w false e = remembered-fits w e
+
+    pub run-fits : (w : List ℕ) → MoveFits rule (run (stepOf rule) (go (start rule)) w)
+    run-fits w = rw (steps-right rule (fit-sound rule fit) w) (answer-fits w (ruleTrips (onParts partTrips rule) w) refl)
+
+    -- read from the start, the step on numbers goes through the numbers of the values
+    pub code-run : (w : List ℕ)
+        → run (codeStepOf rule) (go (encode rule (start rule))) w ≡ encodeMove rule (run (stepOf rule) (go (start rule)) w)
+    code-run w = code-runs w (go (start rule)) run-fits
+
+    pub code-trips : (w : List ℕ) → trips (codeStepOf rule) (encode rule (start rule)) w ≡ trips (stepOf rule) (start rule) w
+    code-trips w = ap tripped (code-run w) ∙ encode-tripped (run (stepOf rule) (go (start rule)) w)
+
+    pub code-remembered : (w : List ℕ) → ruleTrips (onParts partTrips rule) w ≡ false
+        → run (codeStepOf rule) (go (encode rule (start rule))) w ≡ go (encode rule (remembered rule w))
+    code-remembered w e =
+        code-run w ∙ ap (encodeMove rule) (steps-right rule (fit-sound rule fit) w ∙ ap (λ (b : Bool). answer b (remembered rule w)) e)
+
+    -- an action behind a sequence that has not tripped leads to the number of what is remembered of the longer sequence
+    pub code-next : (w : List ℕ) (a : ℕ) → ruleTrips (onParts partTrips rule) w ≡ false
+        → codeStepOf rule (encode rule (remembered rule w)) a
+        ≡ encodeMove rule (answer (ruleTrips (onParts partTrips rule) (w ++ (a ∷ []))) (remembered rule (w ++ (a ∷ []))))
+    code-next w a e =
+        code-step (remembered rule w) a (remembered-fits w e) ∙ ap (encodeMove rule) (step-right rule (fit-sound rule fit) w a e)

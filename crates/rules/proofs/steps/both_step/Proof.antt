@@ -1,0 +1,48 @@
+-- `rules::steps::both_step` meets its contract: the parts' places are moved, and the last pair is two trips.
+-- Assumes nothing.
+use native.Mathlib.Omega.{arith}
+use borrow.Author.Needs.{needs}
+use Rattle.rules.proofs.Stepping.{both-trip, both-goes}
+use Rattle.rules.proofs.steps.both_step.Statement.{statement}
+use Rattle.rules.proofs.steps.both_step.Tie as tie
+
+place-after-requires : tie.Need-place-after-requires
+place-after-requires c κs = search needs
+
+cast-left : tie.Need-cast-left
+cast-left c = search needs
+
+place-after-requires-2 : tie.Need-place-after-requires-2
+place-after-requires-2 c κs = search needs
+
+cast-right : tie.Need-cast-right
+cast-right c = search needs
+
+mul-pair : tie.Need-mul-pair
+mul-pair c = search needs
+
+add-pair : tie.Need-add-pair
+add-pair c = search needs
+
+returns : tie.Need-returns
+returns c =
+    rw (← c .before .before .place-after .ensures, ← c .before .place-after2 .ensures)
+    (both-trip (c .before .before .place-after .result) (c .before .place-after2 .result) (omega arith) (omega arith) (c .if1 .taken))
+
+returns-2 : tie.Need-returns-2
+returns-2 c =
+    rw (← c .before .before .place-after .ensures, ← c .before .place-after2 .ensures)
+    (both-goes (c .before .before .place-after .result) (c .before .place-after2 .result) (c .if1 .left))
+
+pub both-step-spec : {M : Type 1} → statement M
+both-step-spec =
+    tie.close
+    (tie.spec
+    place-after-requires
+    cast-left
+    place-after-requires-2
+    cast-right
+    mul-pair
+    add-pair
+    returns
+    returns-2)

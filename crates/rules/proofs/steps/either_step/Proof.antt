@@ -1,0 +1,53 @@
+-- `rules::steps::either_step` meets its contract: the parts' places are moved, and a trip of one is a trip.
+-- Assumes nothing.
+use borrow.Author.Needs.{needs}
+use Rattle.rules.proofs.Stepping.{either-left, either-right, either-goes}
+use Rattle.rules.proofs.steps.either_step.Statement.{statement}
+use Rattle.rules.proofs.steps.either_step.Tie as tie
+
+place-after-requires : tie.Need-place-after-requires
+place-after-requires c κs = search needs
+
+cast-left : tie.Need-cast-left
+cast-left c = search needs
+
+place-after-requires-2 : tie.Need-place-after-requires-2
+place-after-requires-2 c κs = search needs
+
+cast-right : tie.Need-cast-right
+cast-right c = search needs
+
+returns : tie.Need-returns
+returns c =
+    rw (← c .before .before .place-after .ensures, ← c .before .place-after2 .ensures)
+    (either-left (c .before .before .place-after .result) (c .before .place-after2 .result) (c .if1 .taken))
+
+returns-2 : tie.Need-returns-2
+returns-2 c =
+    rw (← c .before .before .before .place-after .ensures, ← c .before .before .place-after2 .ensures)
+    (either-right (c .before .before .before .place-after .result) (c .before .before .place-after2 .result) (c .before .if1 .left) (c .if2 .taken))
+
+mul-t10 : tie.Need-mul-t10
+mul-t10 c = search needs
+
+add-t11 : tie.Need-add-t11
+add-t11 c = search needs
+
+returns-3 : tie.Need-returns-3
+returns-3 c =
+    rw (← c .before .before .before .place-after .ensures, ← c .before .before .place-after2 .ensures)
+    (either-goes (c .before .before .before .place-after .result) (c .before .before .place-after2 .result) (c .before .if1 .left) (c .if2 .left))
+
+pub either-step-spec : {M : Type 1} → statement M
+either-step-spec =
+    tie.close
+    (tie.spec
+    place-after-requires
+    cast-left
+    place-after-requires-2
+    cast-right
+    returns
+    returns-2
+    mul-t10
+    add-t11
+    returns-3)

@@ -1,0 +1,193 @@
+-- `rules::steps::step` meets its contract: each rule has its step.
+-- Assumes nothing.
+use mathlib.Core.Path.{_≡_, sym, _∙_, ap}
+use mathlib.Core.List.{List}
+use Prim.Native.Nat.{ℕ}
+use native.Mathlib.Omega.{arith}
+use borrow.Author.Needs.{needs}
+use Rattle.trace.specs.Trace.{Move}
+use Rattle.rules.specs.declared.Rule.{Rule}
+use Rattle.rules.specs.Rules.{partAt, moveOf, Steppable}
+use Rattle.rules.specs.Steps.{codeStep}
+use Rattle.rules.proofs.Stepping.{plain, copied-code}
+use Rattle.rules.proofs.steps.step.Statement.{statement}
+use Rattle.rules.proofs.steps.step.Tie as tie
+
+-- what is asked of a rule is asked of the one that it is known to be
+known : {work : List ℕ} {rule is : Rule} → rule ≡ is → Steppable work rule → Steppable work is
+known e h = rw e at h
+
+-- and so is its step
+stepped : (actions : ℕ) (work : List ℕ) (value action : ℕ) {m : Move ℕ} {rule is : Rule} → rule ≡ is
+    → m ≡ codeStep actions work is value action → m ≡ codeStep actions work rule value action
+stepped actions work value action e h = h ∙ ap (λ (r : Rule). codeStep actions work r value action) (sym e)
+
+enum-known-rule : tie.Need-enum-known-rule
+enum-known-rule c = search needs
+
+opening-step-requires : tie.Need-opening-step-requires
+opening-step-requires c κs = search needs
+
+enum-known-rule-2 : tie.Need-enum-known-rule-2
+enum-known-rule-2 c = search needs
+
+counting-step-requires : tie.Need-counting-step-requires
+counting-step-requires c κs = search needs
+
+enum-known-rule-3 : tie.Need-enum-known-rule-3
+enum-known-rule-3 c = search needs
+
+row-move-requires : tie.Need-row-move-requires
+row-move-requires c κs =
+    let start = c .before .before .before .before in
+    let given = known (c .before .rule3 .given .1) (start .pre .0) in
+    (given .room, given .parts, start .pre .1, start .pre .2, omega arith)
+
+enum-known-rule-4 : tie.Need-enum-known-rule-4
+enum-known-rule-4 c = search needs
+
+both-step-requires : tie.Need-both-step-requires
+both-step-requires c κs =
+    let start = c .before .before .before .before in
+    let given = known (c .before .rule4 .given .1) (start .pre .0) in
+    (given, start .pre .1, start .pre .2)
+
+enum-known-rule-5 : tie.Need-enum-known-rule-5
+enum-known-rule-5 c = search needs
+
+either-step-requires : tie.Need-either-step-requires
+either-step-requires c κs =
+    let start = c .before .before .before .before in
+    let given = known (c .before .rule5 .given .1) (start .pre .0) in
+    (given, start .pre .1, start .pre .2)
+
+enum-known-rule-6 : tie.Need-enum-known-rule-6
+enum-known-rule-6 c = search needs
+
+move-all-requires : tie.Need-move-all-requires
+move-all-requires c κs =
+    let start = c .before .before .before .before in
+    let given = known (c .before .rule6 .given .1) (start .pre .0) in
+    (given .room, given .parts, start .pre .1, start .pre .2)
+
+enum-known-rule-7 : tie.Need-enum-known-rule-7
+enum-known-rule-7 c = search needs
+
+until-step-requires : tie.Need-until-step-requires
+until-step-requires c κs =
+    let start = c .before .before .before .before in
+    let given = known (c .before .rule7 .given .1) (start .pre .0) in
+    (given, start .pre .1, start .pre .2)
+
+enum-known-rule-8 : tie.Need-enum-known-rule-8
+enum-known-rule-8 c = search needs
+
+then-step-requires : tie.Need-then-step-requires
+then-step-requires c κs =
+    let start = c .before .before .before .before in
+    let given = known (c .before .rule8 .given .1) (start .pre .0) in
+    (given, start .pre .1, start .pre .2)
+
+enum-known-rule-9 : tie.Need-enum-known-rule-9
+enum-known-rule-9 c = search needs
+
+timed-step-requires : tie.Need-timed-step-requires
+timed-step-requires c κs =
+    let start = c .before .before .before .before in
+    let given = known (c .before .rule9 .given .1) (start .pre .0) in
+    (given, start .pre .1, start .pre .2)
+
+enum-known-rule-10 : tie.Need-enum-known-rule-10
+enum-known-rule-10 c = search needs
+
+filtered-step-requires : tie.Need-filtered-step-requires
+filtered-step-requires c κs =
+    let start = c .before .before .before .before in
+    let given = known (c .before .rule10 .given .1) (start .pre .0) in
+    (given, start .pre .1, start .pre .2)
+
+returns : tie.Need-returns
+returns c =
+    let a = c .before .before .before .before .before .args in
+    stepped (a .actions) (a .work .now) (a .value) (a .action) (c .before .before .rule .given .1) (c .opening-step .ensures)
+
+returns-2 : tie.Need-returns-2
+returns-2 c =
+    let a = c .before .before .before .before .before .args in
+    stepped (a .actions) (a .work .now) (a .value) (a .action) (c .before .before .rule2 .given .1) (c .counting-step .ensures)
+
+returns-3 : tie.Need-returns-3
+returns-3 c =
+    let a = c .before .before .before .before .before .args in
+    stepped (a .actions) (a .work .now) (a .value) (a .action) (c .before .before .rule3 .given .1) (rw (c .row-move .ensures .0) (plain _))
+
+returns-4 : tie.Need-returns-4
+returns-4 c =
+    let a = c .before .before .before .before .before .args in
+    stepped (a .actions) (a .work .now) (a .value) (a .action) (c .before .before .rule4 .given .1) (c .both-step .ensures)
+
+returns-5 : tie.Need-returns-5
+returns-5 c =
+    let a = c .before .before .before .before .before .args in
+    stepped (a .actions) (a .work .now) (a .value) (a .action) (c .before .before .rule5 .given .1) (c .either-step .ensures)
+
+returns-6 : tie.Need-returns-6
+returns-6 c =
+    let a = c .before .before .before .before .before .args in
+    stepped (a .actions) (a .work .now) (a .value) (a .action) (c .before .before .rule6 .given .1) 
+    (copied-code (partAt (a .actions) (a .work .now) (c .before .before .rule6 .given .0 .0)) (a .value) (a .action) (moveOf (c .move-all .result)) (c .move-all .ensures))
+
+returns-7 : tie.Need-returns-7
+returns-7 c =
+    let a = c .before .before .before .before .before .args in
+    stepped (a .actions) (a .work .now) (a .value) (a .action) (c .before .before .rule7 .given .1) (c .until-step .ensures)
+
+returns-8 : tie.Need-returns-8
+returns-8 c =
+    let a = c .before .before .before .before .before .args in
+    stepped (a .actions) (a .work .now) (a .value) (a .action) (c .before .before .rule8 .given .1) (c .then-step .ensures)
+
+returns-9 : tie.Need-returns-9
+returns-9 c =
+    let a = c .before .before .before .before .before .args in
+    stepped (a .actions) (a .work .now) (a .value) (a .action) (c .before .before .rule9 .given .1) (c .timed-step .ensures)
+
+returns-10 : tie.Need-returns-10
+returns-10 c =
+    let a = c .before .before .before .before .before .args in
+    stepped (a .actions) (a .work .now) (a .value) (a .action) (c .before .before .rule10 .given .1) (c .filtered-step .ensures)
+
+pub step-spec : {M : Type 1} → statement M
+step-spec =
+    tie.close
+    (tie.spec
+    enum-known-rule
+    opening-step-requires
+    enum-known-rule-2
+    counting-step-requires
+    enum-known-rule-3
+    row-move-requires
+    enum-known-rule-4
+    both-step-requires
+    enum-known-rule-5
+    either-step-requires
+    enum-known-rule-6
+    move-all-requires
+    enum-known-rule-7
+    until-step-requires
+    enum-known-rule-8
+    then-step-requires
+    enum-known-rule-9
+    timed-step-requires
+    enum-known-rule-10
+    filtered-step-requires
+    returns
+    returns-2
+    returns-3
+    returns-4
+    returns-5
+    returns-6
+    returns-7
+    returns-8
+    returns-9
+    returns-10)

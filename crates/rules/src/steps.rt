@@ -1,0 +1,211 @@
+// The step of a rule, by what the rule is. A value is taken apart into bytes, the parts are moved, and the next value is put together.
+use crate::Moved;
+use crate::Rule;
+use crate::parts::entry_at;
+use crate::parts::part_move;
+use crate::sets::move_all;
+ghost use mathlib.Core.Path.{_≡_};
+ghost use Prim.Native.Nat.{_+_, _≤_, _<_};
+ghost use lib.ListN.{length};
+ghost use Rattle.trace.specs.Trace.{after};
+ghost use Rattle.policy.specs.Closed.{Below};
+ghost use Rattle.policy.specs.Formula.{bit};
+ghost use Rattle.policy.specs.Rule.{opening, counting};
+ghost use Rattle.policy.specs.Value.{goWith};
+ghost use Rattle.rules.specs.Codes.{codePlace};
+ghost use Rattle.rules.specs.Rules.{partAt, moveOf, Readable, Steppable};
+ghost use Rattle.rules.specs.Steps.{codeStep, codeStepOf, codeStart};
+
+// The value before any action.
+pub fn start(rule: Rule, work: &[u8], actions: usize) -> u64
+    ensures { λ r. ⌜ r ≡ codeStart actions (now (work .entry)) rule ⌝ }
+{
+    match rule {
+        Rule::Copied(_) => 1,
+        Rule::Timed(k, _, _, _) => {
+            if k == 0 {
+                131072
+            } else {
+                0
+            }
+        }
+        _ => 0,
+    }
+}
+
+// Whether an action is in a set.
+fn in_set(set: u16, action: usize) -> bool
+    requires { ⌜ action < 16 ⌝ }
+    ensures { λ r. ⌜ r ≡ bit set action ⌝ }
+{
+    (set >> action) % 2 == 1
+}
+
+fn opening_step(set: u16, value: u64, action: usize) -> Moved
+    requires { ⌜ action < 16 ⌝ }
+    ensures { λ r. ⌜ moveOf r ≡ codeStepOf (opening (bit set)) value action ⌝ }
+{
+    if value == 0 {
+        if in_set(set, action) {
+            return Moved::Trip;
+        }
+    }
+    Moved::Go(1)
+}
+
+fn counting_step(k: usize, value: u64, action: usize) -> Moved
+    ensures { λ r. ⌜ moveOf r ≡ codeStepOf (counting k) value action ⌝ }
+{
+    let sofar = value as usize % 256 + 1;
+    if k <= sofar {
+        Moved::Trip
+    } else {
+        Moved::Go(sofar as u64)
+    }
+}
+
+// Where an action leads from a row that a byte names: to a row below 64, or a trip.
+fn row_move(work: &[u8], actions: usize, i: usize, row: u64, action: usize) -> Moved
+    requires { ⌜ (65536 ≤ length (now work)) × Readable (now work) i × (actions ≤ 16) × (action < actions) × (row < 256) ⌝ }
+    ensures { λ r. ⌜ (moveOf r ≡ partAt actions (now (work .entry)) i row action) × Below 64 (moveOf r) ⌝ }
+{
+    part_move(work, actions, i, row as usize, action)
+}
+
+// A part's row or trip behind an action, as a byte: a part that has tripped stays so.
+fn place_after(work: &[u8], actions: usize, i: usize, place: u64, action: usize) -> u8
+    requires { ⌜ (65536 ≤ length (now work)) × (i < 64) × (actions ≤ 16) × (action < actions) × (place < 256) ⌝ }
+    ensures { λ r. ⌜ codePlace r ≡ after (codePlace place) (λ q. partAt actions (now (work .entry)) i q action) ⌝ }
+{
+    if place == 255 {
+        return 255;
+    }
+    entry_at(work, i, place as usize * actions + action)
+}
+
+fn both_step(work: &[u8], actions: usize, i: usize, j: usize, value: u64, action: usize) -> Moved
+    requires { ⌜ Steppable (now work) (Rule.Both i j) × (actions ≤ 16) × (action < actions) ⌝ }
+    ensures { λ r. ⌜ moveOf r ≡ codeStep actions (now (work .entry)) (Rule.Both i j) value action ⌝ }
+{
+    let left = place_after(work, actions, i, value / 256 % 256, action) as u64;
+    let right = place_after(work, actions, j, value % 256, action) as u64;
+    let pair = left * 256 + right;
+    if pair == 65535 {
+        Moved::Trip
+    } else {
+        Moved::Go(pair)
+    }
+}
+
+fn either_step(work: &[u8], actions: usize, i: usize, j: usize, value: u64, action: usize) -> Moved
+    requires { ⌜ Steppable (now work) (Rule.Either i j) × (actions ≤ 16) × (action < actions) ⌝ }
+    ensures { λ r. ⌜ moveOf r ≡ codeStep actions (now (work .entry)) (Rule.Either i j) value action ⌝ }
+{
+    let left = place_after(work, actions, i, value / 256 % 256, action) as u64;
+    let right = place_after(work, actions, j, value % 256, action) as u64;
+    if left == 255 {
+        return Moved::Trip;
+    }
+    if right == 255 {
+        return Moved::Trip;
+    }
+    Moved::Go(left * 256 + right)
+}
+
+// b is judged on the very action that fulfils a, and only then released.
+fn until_step(work: &[u8], actions: usize, i: usize, j: usize, value: u64, action: usize) -> Moved
+    requires { ⌜ Steppable (now work) (Rule.Until i j) × (actions ≤ 16) × (action < actions) ⌝ }
+    ensures { λ r. ⌜ moveOf r ≡ codeStep actions (now (work .entry)) (Rule.Until i j) value action ⌝ }
+{
+    if value == 65535 {
+        return Moved::Go(65535);
+    }
+    match row_move(work, actions, j, value % 256, action) {
+        Moved::Trip => Moved::Trip,
+        Moved::Go(r) => match row_move(work, actions, i, value / 256 % 256, action) {
+            Moved::Trip => Moved::Go(65535),
+            Moved::Go(q) => Moved::Go(q * 256 + r),
+        },
+    }
+}
+
+// A part's move, its row under a mark.
+fn marked_move(work: &[u8], actions: usize, i: usize, mark: u64, row: u64, action: usize) -> Moved
+    requires { ⌜ (65536 ≤ length (now work)) × Readable (now work) i × (actions ≤ 16) × (action < actions) × (mark ≤ 131072) × (row < 256) ⌝ }
+    ensures { λ r. ⌜ moveOf r ≡ goWith (λ q. mark + q) (partAt actions (now (work .entry)) i row action) ⌝ }
+{
+    match row_move(work, actions, i, row, action) {
+        Moved::Trip => Moved::Trip,
+        Moved::Go(r) => Moved::Go(mark + r),
+    }
+}
+
+// b starts on the action behind the one that fulfils a.
+fn then_step(work: &[u8], actions: usize, i: usize, j: usize, value: u64, action: usize) -> Moved
+    requires { ⌜ Steppable (now work) (Rule.Then i j) × (actions ≤ 16) × (action < actions) ⌝ }
+    ensures { λ r. ⌜ moveOf r ≡ codeStep actions (now (work .entry)) (Rule.Then i j) value action ⌝ }
+{
+    let row = value % 256;
+    if value / 256 % 256 != 0 {
+        return marked_move(work, actions, j, 256, row, action);
+    }
+    match row_move(work, actions, i, row, action) {
+        Moved::Trip => Moved::Go(256),
+        Moved::Go(q) => Moved::Go(q),
+    }
+}
+
+fn timed_step(work: &[u8], actions: usize, k: usize, i: usize, j: usize, l: usize, value: u64, action: usize) -> Moved
+    requires { ⌜ Steppable (now work) (Rule.Timed k i j l) × (actions ≤ 16) × (action < actions) ⌝ }
+    ensures { λ r. ⌜ moveOf r ≡ codeStep actions (now (work .entry)) (Rule.Timed k i j l) value action ⌝ }
+{
+    let low = value % 256;
+    let phase = value / 65536 % 256;
+    if phase == 1 {
+        return marked_move(work, actions, j, 65536, low, action);
+    }
+    if phase != 0 {
+        return marked_move(work, actions, l, 131072, low, action);
+    }
+    match row_move(work, actions, i, value / 256 % 256, action) {
+        Moved::Trip => Moved::Go(65536),
+        Moved::Go(q) => {
+            let sofar = low + 1;
+            if k as u64 <= sofar {
+                Moved::Go(131072)
+            } else {
+                Moved::Go(q * 256 + sofar)
+            }
+        }
+    }
+}
+
+fn filtered_step(work: &[u8], actions: usize, set: u16, i: usize, value: u64, action: usize) -> Moved
+    requires { ⌜ Steppable (now work) (Rule.Filtered set i) × (actions ≤ 16) × (action < actions) ⌝ }
+    ensures { λ r. ⌜ moveOf r ≡ codeStep actions (now (work .entry)) (Rule.Filtered set i) value action ⌝ }
+{
+    let row = value % 256;
+    if in_set(set, action) {
+        return Moved::Go(row);
+    }
+    row_move(work, actions, i, row, action)
+}
+
+// Where an action leads from a remembered value.
+pub fn step(rule: Rule, work: &[u8], actions: usize, value: u64, action: usize) -> Moved
+    requires { ⌜ Steppable (now work) rule × (actions ≤ 16) × (action < actions) ⌝ }
+    ensures { λ r. ⌜ moveOf r ≡ codeStep actions (now (work .entry)) rule value action ⌝ }
+{
+    match rule {
+        Rule::Opening(set) => opening_step(set, value, action),
+        Rule::Counting(k) => counting_step(k, value, action),
+        Rule::Same(i) => row_move(work, actions, i, value % 256, action),
+        Rule::Both(i, j) => both_step(work, actions, i, j, value, action),
+        Rule::Either(i, j) => either_step(work, actions, i, j, value, action),
+        Rule::Copied(i) => move_all(work, actions, i, value, action),
+        Rule::Until(i, j) => until_step(work, actions, i, j, value, action),
+        Rule::Then(i, j) => then_step(work, actions, i, j, value, action),
+        Rule::Timed(k, i, j, l) => timed_step(work, actions, k, i, j, l, value, action),
+        Rule::Filtered(set, i) => filtered_step(work, actions, set, i, value, action),
+    }
+}
