@@ -50,9 +50,6 @@ module _ (c : tie.In-loop Inv-loop μ-loop) where
     entry-fits : Fits w64 (firstOf (start .args .firsts .now) x * start .args .actions + y)
     entry-fits = omega (arith, entry-inside)
 
-    entry-fits-twice : Fits w64 ((firstOf (start .args .firsts .now) x * start .args .actions + y) * 2)
-    entry-fits-twice = omega (arith, entry-inside)
-
 mul-from : tie.Need-mul-from Inv-loop μ-loop
 mul-from c = omega (arith, row-below c)
 
@@ -62,23 +59,14 @@ shared-slice-read-from c = omega (arith, row-below (c .before))
 mul-from-2 : tie.Need-mul-from-2 Inv-loop μ-loop
 mul-from-2 c = row-fits (c .before) _ (omega (arith, row-below (c .before)))
 
-rem-index : tie.Need-rem-index Inv-loop μ-loop
-rem-index c = omega arith
+rem-class-behind : tie.Need-rem-class-behind Inv-loop μ-loop
+rem-class-behind c = omega arith
 
-add-index : tie.Need-add-index Inv-loop μ-loop
-add-index c = entry-fits (c .before) _ _ (omega (arith, row-below (c .before))) (action-below (c .before))
+add-class-behind : tie.Need-add-class-behind Inv-loop μ-loop
+add-class-behind c = entry-fits (c .before) _ _ (omega (arith, row-below (c .before))) (action-below (c .before))
 
-mul-index : tie.Need-mul-index Inv-loop μ-loop
-mul-index c = entry-fits-twice (c .before) _ _ (omega (arith, row-below (c .before))) (action-below (c .before))
-
-shared-slice-read-index : tie.Need-shared-slice-read-index Inv-loop μ-loop
-shared-slice-read-index c = entry-inside (c .before .before) _ _ (omega (arith, row-below (c .before .before))) (action-below (c .before .before))
-
-index-requires : tie.Need-index-requires Inv-loop μ-loop
-index-requires c κs = search needs
-
-class-of-requires : tie.Need-class-of-requires Inv-loop μ-loop
-class-of-requires c κs = search needs
+class-behind-requires : tie.Need-class-behind-requires Inv-loop μ-loop
+class-behind-requires c κs = entry-inside (c .before) _ _ (omega (arith, row-below (c .before))) (action-below (c .before))
 
 slice-write-out : tie.Need-slice-write-out Inv-loop μ-loop
 slice-write-out c = omega arith
@@ -90,7 +78,7 @@ loop-less : tie.Need-loop-less Inv-loop μ-loop
 loop-less c = omega arith
 
 loop-again : tie.Need-loop-again Inv-loop μ-loop
-loop-again c = rw (c .class-of .ensures, c .before .index .ensures) (stored-more (c .before .before .before .before .before .loop .inv) (omega arith) (omega arith))
+loop-again c = rw (c .class-behind .ensures) (stored-more (c .before .before .before .loop .inv) (omega arith) (omega arith))
 
 same-length : tie.Need-same-length Inv-loop μ-loop
 same-length c = omega arith
@@ -110,12 +98,9 @@ quotient-spec =
     mul-from
     shared-slice-read-from
     mul-from-2
-    rem-index
-    add-index
-    mul-index
-    shared-slice-read-index
-    index-requires
-    class-of-requires
+    rem-class-behind
+    add-class-behind
+    class-behind-requires
     slice-write-out
     add-k
     loop-less
