@@ -2,19 +2,18 @@
 -- Assumes nothing.
 use mathlib.Core.Path.{_≡_, sym, subst, ap, _∙_}
 use mathlib.Core.List.{List}
-use mathlib.Core.WellFounded.{WellFounded·induction}
-use Prim.Native.Nat.{ℕ, zero, suc, _+_, _*_, _/_, _%_, _≤_, _<_}
-use native.Mathlib.Nat.{zero-lt-suc, le-antisymm, lt-irrefl}
+use Prim.Native.Nat.{ℕ, _+_, _*_, _/_, _%_, _≤_, _<_}
+use native.Mathlib.Nat.{le-antisymm, lt-irrefl}
 use native.Mathlib.Decide.{decLt, decLe}
 use native.Mathlib.Omega.{arith}
 use lib.Arith.{digits-lt}
 use lib.ListN.{getD}
 use lib.Seq.{ext-getD}
-use lib.WfN.{Nat·lt-wfRel}
 use Rattle.trace.specs.Trace.{Alike}
 use Rattle.trace.proofs.Laws.{alike-sym, alike-trans}
 use Rattle.automaton.specs.Machine.{transition, Machine, FirstMet, Numbered, Distinct}
 use Rattle.automaton.proofs.Entries.{Matched, both-trip, both-go, met-goes, AlikeIn, alike-matched-from, alike-matched-at, state-below, index-below, action-below}
+use Rattle.automaton.proofs.Numbering.{met-induction}
 use Rattle.base.proofs.Pigeon.{pigeon}
 
 -- Two machines with the same actions. Both are numbered as first met, and neither has two alike states.
@@ -83,11 +82,7 @@ module _ {actions mark states mark' states' : ℕ} {next next' : List ℕ} (acts
 
   -- each state of the first is one of the second, and the two are alike
   all-same : 0 < states' → Both 0 0 → (s : ℕ) → s < states → Same s
-  all-same some start s = WellFounded·induction (Nat·lt-wfRel .wf) {C = λ (x : ℕ). x < states → Same x} s each
-    where
-      each : (x : ℕ) → ((p : ℕ) → p < x → p < states → Same p) → x < states → Same x
-      each zero ih h = (some, start)
-      each (suc x) ih h = same-met (suc x) (zero-lt-suc x) h (λ p g. ih p g (omega arith)) (nu .met (suc x) (zero-lt-suc x) h)
+  all-same some start = met-induction nu Same (some, start) same-met
 
   no-more : 0 < states' → Both 0 0 → states ≤ states'
   no-more some start = elim (decLe states states') [ yes h ↦ h | no h ↦ absurd (lt-irrefl states' (all-same some start states' (omega arith) .0)) ]
@@ -153,18 +148,8 @@ fewest {actions} {mark} {states} {mark'} {states'} {next} {next'} acts mc nu di 
         step : (e' ≡ mark' → ⊥) × Both s e'
         step = met-goes mark' e' mc h fm (alike-matched-from actions mark next mark' next' acts (fm .at) (row .2))
 
-    each : (s : ℕ) → ((p : ℕ) → p < s → p < states → Image p) → s < states → Image s
-    each zero ih h = (0, some', start)
-    each (suc s) ih h = behind (suc s) h fm (ih (fm .at / actions) row (omega (arith, row)))
-      where
-        fm : FirstMet mark actions next (suc s)
-        fm = nu .met (suc s) (zero-lt-suc s) h
-
-        row : fm .at / actions < suc s
-        row = state-below acts (fm .early)
-
     image : (s : ℕ) → s < states → Image s
-    image s = WellFounded·induction (Nat·lt-wfRel .wf) {C = λ (x : ℕ). x < states → Image x} s each
+    image = met-induction nu Image (0, some', start) (λ s pos h ih fm. behind s h fm (ih (fm .at / actions) (state-below acts (fm .early))))
 
     apart : (i k j : ℕ) → i < k → k < states → j < states' → Both i j → Both k j → ⊥
     apart i k j l h g e e' = let q = di .apart i k (omega arith) h (alike-trans actions e (alike-sym actions e')) in omega arith

@@ -10,6 +10,7 @@ use lib.ListN.{getD}
 use Rattle.base.specs.Build.{Decides}
 use Rattle.automaton.specs.Partition.{classOf, SameSignature}
 use Rattle.base.proofs.Decide.{decides-eqb}
+use Rattle.automaton.proofs.Classes.{Equivalence}
 
 -- the class behind an action
 abbrev pub behindOf : (actions : ℕ) (next classes : List ℕ) (s a : ℕ) → ℕ
@@ -20,14 +21,13 @@ pub entries-within : (states actions n s : ℕ) → n ≡ states * actions → s
 entries-within states actions n s e h = omega (arith, suc-mul s actions, mul-le-mul-right actions h)
 
 module _ (actions : ℕ) (next classes : List ℕ) where
-  pub signature-sym : (s t : ℕ) → SameSignature actions next classes s t → SameSignature actions next classes t s
-  signature-sym s t e = record { class = sym (e .class); behind = λ a h. sym (e .behind a h) }
-
-  pub signature-trans : (s t u : ℕ) → SameSignature actions next classes s t → SameSignature actions next classes t u → SameSignature actions next classes s u
-  signature-trans s t u d e = record { class = d .class ∙ e .class; behind = λ a h. d .behind a h ∙ e .behind a h }
-
-  pub signature-refl : (s : ℕ) → SameSignature actions next classes s s
-  signature-refl s = record { class = refl; behind = λ a h. refl }
+  pub signature-equivalence : Equivalence (SameSignature actions next classes)
+  signature-equivalence =
+      record {
+        reflexive = λ s. record { class = refl; behind = λ a h. refl };
+        symmetric = λ s t e. record { class = sym (e .class); behind = λ a h. sym (e .behind a h) };
+        transitive = λ s t u d e. record { class = d .class ∙ e .class; behind = λ a h. d .behind a h ∙ e .behind a h };
+      }
 
   module _ (s t a : ℕ) where
     -- no action left to compare

@@ -6,7 +6,8 @@ use Prim.Native.Nat.{ℕ, _≤_, _<_}
 use native.Mathlib.Decide.{ℕ-discrete, decLt}
 use native.Mathlib.Omega.{arith}
 use Rattle.automaton.specs.Partition.{classOf, firstOf, Partition, Over}
-use Rattle.automaton.proofs.Splits.{update, update-same, update-other, over-extend, class-related, related-class, over-not-partition}
+use Rattle.automaton.proofs.Classes.{Equivalence, class-related, related-class}
+use Rattle.automaton.proofs.Splits.{update, update-same, update-other, over-extend, over-not-partition}
 
 -- `count` classes, each of some state.
 pub record Classified (states count : ℕ) (classes : List ℕ) : Type 0 where
@@ -25,13 +26,12 @@ one-classified states classes h f = record { pick = λ c. 0; below = below; insi
     own : (c : ℕ) → c < 1 → classOf classes 0 ≡ c
     own c l = omega (arith, f 0 h)
 
-module _ (R : ℕ → ℕ → Type 0) (states count : ℕ) (classes firsts : List ℕ) (p : Partition R states count classes firsts) where
-  pub partition-classified : Classified states count classes
-  partition-classified = record { pick = firstOf firsts; below = p .below; inside = p .inside; own = p .own }
+pub partition-classified : {R : ℕ → ℕ → Type 0} {states count : ℕ} {classes firsts : List ℕ} → Partition R states count classes firsts → Classified states count classes
+partition-classified {firsts = firsts} p = record { pick = firstOf firsts; below = p .below; inside = p .inside; own = p .own }
 
-module _ (R : ℕ → ℕ → Type 0) (states : ℕ) (symmetric : (s t : ℕ) → R s t → R t s) (transitive : (s t u : ℕ) → R s t → R t u → R s u)
-    (classes : List ℕ) (coarser : (s t : ℕ) → R s t → classOf classes s ≡ classOf classes t) (count : ℕ) (k : Classified states count classes)
-    (finer : ℕ) (split firsts : List ℕ) (p : Partition R states finer split firsts) where
+module _ {R : ℕ → ℕ → Type 0} {states count finer : ℕ} {classes split firsts : List ℕ} (eq : Equivalence R)
+    (coarser : (s t : ℕ) → R s t → classOf classes s ≡ classOf classes t) (k : Classified states count classes)
+    (p : Partition R states finer split firsts) where
   -- picks of two classes are not related
   apart : (f : ℕ → ℕ) → ((c : ℕ) → c < count → classOf classes (f c) ≡ c) → (c d : ℕ) → c < d → d < count → R (f c) (f d) → ⊥
   apart f own c d l h r = omega (arith, coarser (f c) (f d) r, own c (omega arith), own d h)
@@ -39,7 +39,7 @@ module _ (R : ℕ → ℕ → Type 0) (states : ℕ) (symmetric : (s t : ℕ) �
   pub no-fewer : count ≤ finer
   no-fewer =
       elim (decLt finer count) [
-        | yes h ↦ absurd (over-not-partition R states symmetric transitive finer split firsts p finer (over h) (omega arith))
+        | yes h ↦ absurd (over-not-partition p eq finer (over h) (omega arith))
         | no q ↦ omega arith
       ]
     where
@@ -54,8 +54,8 @@ module _ (R : ℕ → ℕ → Type 0) (states : ℕ) (symmetric : (s t : ℕ) �
   pub unchanged : finer ≤ count → (s t : ℕ) → s < states → t < states → classOf classes s ≡ classOf classes t → R s t
   unchanged h s t hs ht e =
       elim (ℕ-discrete (classOf split s) (classOf split t)) [
-        | yes q ↦ class-related R states symmetric transitive finer split firsts p s t hs ht q
-        | no q ↦ absurd (over-not-partition R states symmetric transitive finer split firsts p count (over q) h)
+        | yes q ↦ class-related p eq s t hs ht q
+        | no q ↦ absurd (over-not-partition p eq count (over q) h)
       ]
     where
       -- s for its own class
@@ -80,7 +80,7 @@ module _ (R : ℕ → ℕ → Type 0) (states : ℕ) (symmetric : (s t : ℕ) �
       fresh : (classOf split s ≡ classOf split t → ⊥) → (c : ℕ) → c < count → R (f c) t → ⊥
       fresh q c l r =
           let g : c ≡ classOf classes s = omega (arith, coarser (f c) t r, own c l) in
-          q (related-class R states symmetric transitive finer split firsts p s t hs ht
+          q (related-class p eq s t hs ht
           (subst (λ (x : ℕ). R x t) (ap f g ∙ update-same (k .pick) (classOf classes s) s) r))
 
       over : (classOf split s ≡ classOf split t → ⊥) → Over R states count

@@ -2,16 +2,16 @@
 -- Assumes nothing.
 use mathlib.Core.Path.{_≡_, refl, subst}
 use mathlib.Core.Bool.{Bool, true, false}
-use mathlib.Core.List.{List, [], _∷_}
-use Prim.Native.Nat.{ℕ, zero, suc, _+_, _*_, _/_, _%_, _<_}
-use native.Mathlib.Nat.{div-lt-iff-lt-mul, div-add-mod', mod-lt, le-of-suc-le-suc, not-suc-le-zero}
-use native.Mathlib.Omega.{arith}
+use mathlib.Core.List.{List}
+use Prim.Native.Nat.{ℕ, _+_, _*_, _/_, _%_, _<_}
+use native.Mathlib.Nat.{div-lt-iff-lt-mul, div-add-mod', mod-lt}
 use lib.Dec.{eqb}
-use lib.ListN.{length, getD}
+use lib.ListN.{getD}
 use borrow.Author.Tests.{eqb-true, eqb-false, eq-eqb, ne-eqb}
 use Rattle.trace.specs.Trace.{trip, go, Alike}
 use Rattle.trace.proofs.Laws.{Related, alike-next}
 use Rattle.automaton.specs.Machine.{moveBy, entryMove, transition, Machine, FirstMet}
+use Rattle.automaton.proofs.Numbering.{met-not-mark}
 
 -- the mark trips
 pub mark-trips : (mark e : ℕ) → e ≡ mark → entryMove mark e ≡ trip
@@ -90,7 +90,4 @@ pub met-goes : {R : ℕ → ℕ → Type 0} {mark states actions : ℕ} {next : 
     → Machine mark states actions next → {s : ℕ} → s < states → (fm : FirstMet mark actions next s)
     → Matched R mark (getD next (fm .at) mark) mark' e'
     → (e' ≡ mark' → ⊥) × R s e'
-met-goes {R} {mark} {next = next} mark' e' mc h fm g = rw (fm .here) at (matched-goes mark (getD next (fm .at) mark) mark' e' g not-mark)
-  where
-    not-mark : getD next (fm .at) mark ≡ mark → ⊥
-    not-mark q = let p = fm .here in omega (arith, mc .marked)
+met-goes {R} {mark} {next = next} mark' e' mc h fm g = rw (fm .here) at (matched-goes mark (getD next (fm .at) mark) mark' e' g (met-not-mark mc h fm))

@@ -14,132 +14,121 @@ use Rattle.automaton.specs.Partition.{classOf, firstOf, Partition}
 use Rattle.automaton.specs.Quotient.{quotientRows}
 use Rattle.automaton.proofs.Classes.{first-order}
 use Rattle.automaton.proofs.Entries.{alike-matched-from, met-goes, state-below, index-below, action-below, split-index}
-use Rattle.automaton.proofs.QuotientReads.{alike-class, mark-class, row-at, row-entry}
+use Rattle.automaton.proofs.QuotientReads.{alike-class, trip-class, row-at, row-entry}
 
 module _ {mark states actions count : ℕ} {next classes firsts : List ℕ} (acts : 0 < actions) (mc : Machine mark states actions next)
     (pa : Partition (AlikeStates mark actions next) states count classes firsts) (sized : length classes ≡ states) (few : count ≤ 64) where
   abbrev rows : List ℕ
   rows = quotientRows actions count next classes firsts
 
-  -- The first member f of a class is first met in a state p that is the first member of its own class: an earlier member of that one goes by the
-  -- same action to a state alike f, which is f or later, but stands before f is met.
-  first-row : (c : ℕ) → c < count → (fm : FirstMet mark actions next (firstOf firsts c))
-      → firstOf firsts (classOf classes (fm .at / actions)) ≡ fm .at / actions
-  first-row c h fm = elim (decLt p' p) [ yes l ↦ absurd (earlier l) | no l ↦ omega (arith, pa .first p p-below) ]
-    where
-      f : ℕ
-      f = firstOf firsts c
+  -- The first member of a class is met in a state p, at an action a.
+  module _ (c : ℕ) (h : c < count) (fm : FirstMet mark actions next (firstOf firsts c)) where
+    abbrev f : ℕ
+    f = firstOf firsts c
 
-      p : ℕ
-      p = fm .at / actions
+    abbrev p : ℕ
+    p = fm .at / actions
 
-      a : ℕ
-      a = fm .at % actions
+    abbrev a : ℕ
+    a = fm .at % actions
 
-      p-below : p < states
-      p-below = lt-trans (state-below acts (fm .early)) (pa .inside c h)
+    p-before : p < f
+    p-before = state-below acts (fm .early)
 
-      p' : ℕ
-      p' = firstOf firsts (classOf classes p)
+    p-below : p < states
+    p-below = lt-trans p-before (pa .inside c h)
 
-      g : ℕ
-      g = getD next (p' * actions + a) mark
+    a-below : a < actions
+    a-below = action-below (fm .at) acts
 
-      step : (g ≡ mark → ⊥) × AlikeStates mark actions next f g
-      step = met-goes mark g mc (pa .inside c h) fm (alike-matched-from actions mark next mark next acts (fm .at) (alike-sym actions (pa .member p p-below)))
+    -- It is the first member of its own class: an earlier member of that one goes by the same action to a state alike f, which is f or later,
+    -- but stands before f is met.
+    p-first : firstOf firsts (classOf classes p) ≡ p
+    p-first = elim (decLt p' p) [ yes l ↦ absurd (earlier l) | no l ↦ omega (arith, pa .first p p-below) ]
+      where
+        p' : ℕ
+        p' = firstOf firsts (classOf classes p)
 
-      g-below : g < states
-      g-below = mc .closed (p' * actions + a) (digits-lt (pa .inside (classOf classes p) (pa .below p p-below)) (action-below (fm .at) acts)) (step .0)
+        g : ℕ
+        g = getD next (p' * actions + a) mark
 
-      class : classOf classes g ≡ c
-      class = sym (alike-class acts mc pa sized few f g (pa .inside c h) g-below (step .1)) ∙ pa .own c h
+        step : (g ≡ mark → ⊥) × AlikeStates mark actions next f g
+        step = met-goes mark g mc (pa .inside c h) fm (alike-matched-from actions mark next mark next acts (fm .at) (alike-sym actions (pa .member p p-below)))
 
-      not-less : f ≤ g
-      not-less = rw class at (pa .first g g-below)
+        g-below : g < states
+        g-below = mc .closed (p' * actions + a) (digits-lt (pa .inside (classOf classes p) (pa .below p p-below)) a-below) (step .0)
 
-      before : p' < p → p' * actions + a < fm .at
-      before l = omega (arith, digits-lt l (action-below (fm .at) acts), split-index (fm .at) actions)
+        class : classOf classes g ≡ c
+        class = sym (alike-class acts mc pa sized few f g (pa .inside c h) g-below (step .1)) ∙ pa .own c h
 
-      earlier : p' < p → ⊥
-      earlier l = omega (arith, not-less, fm .new (p' * actions + a) (before l) (step .0))
+        not-less : f ≤ g
+        not-less = rw class at (pa .first g g-below)
 
-  -- So the class is first met in the row of p's class, at the same action.
-  class-met : (c : ℕ) → c < count → FirstMet mark actions next (firstOf firsts c) → FirstMet 255 actions rows c
-  class-met c h fm = record { at = cp * actions + a; here = here; early = digits-lt cp-below a-below; new = new }
-    where
-      f : ℕ
-      f = firstOf firsts c
+        before : p' < p → p' * actions + a < fm .at
+        before l = omega (arith, digits-lt l a-below, split-index (fm .at) actions)
 
-      p : ℕ
-      p = fm .at / actions
+        earlier : p' < p → ⊥
+        earlier l = omega (arith, not-less, fm .new (p' * actions + a) (before l) (step .0))
 
-      a : ℕ
-      a = fm .at % actions
+    -- So the class is first met in the row of p's class, at the same action.
+    class-met : FirstMet 255 actions rows c
+    class-met = record { at = cp * actions + a; here = here; early = digits-lt cp-below a-below; new = new }
+      where
+        cp : ℕ
+        cp = classOf classes p
 
-      a-below : a < actions
-      a-below = action-below (fm .at) acts
+        cp-inside : cp < count
+        cp-inside = pa .below p p-below
 
-      cp : ℕ
-      cp = classOf classes p
+        cp-below : cp < c
+        cp-below = first-order pa cp c cp-inside (rw p-first p-before)
 
-      p-first : firstOf firsts cp ≡ p
-      p-first = first-row c h fm
+        here : getD rows (cp * actions + a) 255 ≡ c
+        here =
+            row-entry acts mc pa sized few cp a cp-inside a-below
+            ∙ ap (λ (x : ℕ). classOf classes (getD next (x * actions + a) mark)) p-first
+            ∙ ap (λ (x : ℕ). classOf classes (getD next x mark)) (split-index (fm .at) actions)
+            ∙ ap (classOf classes) (fm .here)
+            ∙ pa .own c h
 
-      cp-inside : cp < count
-      cp-inside = pa .below p (lt-trans (state-below acts (fm .early)) (pa .inside c h))
+        new : (j : ℕ) → j < cp * actions + a → (getD rows j 255 ≡ 255 → ⊥) → getD rows j 255 < c
+        new j l q = rw entry (first-order pa (classOf classes x) c (pa .below x x-inside) (lt-of-le-of-lt (pa .first x x-inside) x-below))
+          where
+            e : ℕ
+            e = j / actions
 
-      cp-below : cp < c
-      cp-below = first-order pa cp c cp-inside (rw p-first (state-below acts (fm .early)))
+            i : ℕ
+            i = firstOf firsts e * actions + j % actions
 
-      here : getD rows (cp * actions + a) 255 ≡ c
-      here =
-          row-entry acts mc pa sized few cp a cp-inside a-below
-          ∙ ap (λ (x : ℕ). classOf classes (getD next (x * actions + a) mark)) p-first
-          ∙ ap (λ (x : ℕ). classOf classes (getD next x mark)) (split-index (fm .at) actions)
-          ∙ ap (classOf classes) (fm .here)
-          ∙ pa .own c h
+            e-upto : e < suc cp
+            e-upto = state-below acts (rw (suc-mul cp actions) (omega (arith, a-below)))
 
-      new : (j : ℕ) → j < cp * actions + a → (getD rows j 255 ≡ 255 → ⊥) → getD rows j 255 < c
-      new j l q = rw entry (first-order pa (classOf classes x) c (pa .below x x-inside) (lt-of-le-of-lt (pa .first x x-inside) x-below))
-        where
-          e : ℕ
-          e = j / actions
+            e-inside : e < count
+            e-inside = omega (arith, e-upto, cp-inside)
 
-          b : ℕ
-          b = j % actions
+            entry : getD rows j 255 ≡ classOf classes (getD next i mark)
+            entry = row-at acts mc pa sized few j (index-below acts e-inside)
 
-          i : ℕ
-          i = firstOf firsts e * actions + b
+            i-lower : e < cp → i < fm .at
+            i-lower g = omega (arith, digits-lt (rw p-first at (pa .ordered e cp g cp-inside)) (action-below j acts), split-index (fm .at) actions)
 
-          e-upto : e < suc cp
-          e-upto = state-below acts (rw (suc-mul cp actions) (omega (arith, a-below)))
+            i-equal : e ≡ cp → i < fm .at
+            i-equal g =
+                let je = ap (λ (y : ℕ). y * actions) g in
+                let fe = ap (λ (y : ℕ). firstOf firsts y * actions) g ∙ ap (λ (y : ℕ). y * actions) p-first in
+                omega (arith, split-index j actions, split-index (fm .at) actions)
 
-          e-inside : e < count
-          e-inside = omega (arith, e-upto, cp-inside)
+            i-before : i < fm .at
+            i-before = elim (ℕ-discrete e cp) [ yes g ↦ i-equal g | no g ↦ i-lower (omega (arith, e-upto)) ]
 
-          entry : getD rows j 255 ≡ classOf classes (getD next i mark)
-          entry = row-at acts mc pa sized few j (index-below acts e-inside)
+            x : ℕ
+            x = getD next i mark
 
-          i-lower : e < cp → i < fm .at
-          i-lower g = omega (arith, digits-lt (rw p-first at (pa .ordered e cp g cp-inside)) (action-below j acts), split-index (fm .at) actions)
+            x-below : x < f
+            x-below = fm .new i i-before (λ g. q (entry ∙ ap (classOf classes) g ∙ trip-class acts mc pa sized few))
 
-          i-equal : e ≡ cp → i < fm .at
-          i-equal g =
-              let je = ap (λ (y : ℕ). y * actions) g in
-              let fe = ap (λ (y : ℕ). firstOf firsts y * actions) g ∙ ap (λ (y : ℕ). y * actions) p-first in
-              omega (arith, split-index j actions, split-index (fm .at) actions)
-
-          i-before : i < fm .at
-          i-before = elim (ℕ-discrete e cp) [ yes g ↦ i-equal g | no g ↦ i-lower (omega (arith, e-upto)) ]
-
-          x : ℕ
-          x = getD next i mark
-
-          x-below : x < f
-          x-below = fm .new i i-before (λ g. q (entry ∙ ap (classOf classes) g ∙ mark-class acts mc pa sized few))
-
-          x-inside : x < states
-          x-inside = lt-trans x-below (pa .inside c h)
+            x-inside : x < states
+            x-inside = lt-trans x-below (pa .inside c h)
 
   -- the quotient keeps the stated numbering
   pub quotient-numbered : Numbered mark states actions next → Numbered 255 count actions (quotientRows actions count next classes firsts)

@@ -5,14 +5,14 @@ use mathlib.Core.List.{List}
 use Prim.Native.Nat.{ℕ, _+_, _*_, _/_, _%_, _≤_, _<_}
 use native.Mathlib.Omega.{arith}
 use lib.Arith.{digits-lt, digits-div, digits-mod}
-use lib.ListN.{length, getD, List·getD-eq-default}
+use lib.ListN.{length, getD}
 use Rattle.trace.specs.Trace.{Alike}
 use Rattle.trace.proofs.Laws.{Related, alike-sym, alike-trans, bisimilar}
 use Rattle.automaton.specs.Machine.{transition, AlikeStates, Machine, Distinct}
 use Rattle.automaton.specs.Partition.{classOf, firstOf, Partition}
 use Rattle.automaton.specs.Quotient.{quotientEntry, quotientRows}
 use Rattle.base.proofs.Lists.{length-build, getD-build}
-use Rattle.automaton.proofs.Classes.{class-zero, same-class}
+use Rattle.automaton.proofs.Classes.{class-zero, related-class, alike-equivalence, mark-class}
 use Rattle.automaton.proofs.Entries.{Matched, both-trip, both-go, matched-related, AlikeIn, alike-matched, state-below, action-below}
 use Rattle.base.proofs.Lists.{getD-within}
 
@@ -23,11 +23,11 @@ module _ {mark states actions count : ℕ} {next classes firsts : List ℕ} (act
 
   -- alike states have one class
   pub alike-class : (s t : ℕ) → s < states → t < states → AlikeStates mark actions next s t → classOf classes s ≡ classOf classes t
-  alike-class = same-class pa (λ s t e. alike-sym actions e) (λ s t u d e. alike-trans actions d e)
+  alike-class = related-class pa (alike-equivalence mark actions next)
 
   -- a trip has the class 255
-  pub mark-class : classOf classes mark ≡ 255
-  mark-class = List·getD-eq-default classes 255 (omega (arith, mc .marked))
+  pub trip-class : classOf classes mark ≡ 255
+  trip-class = mark-class classes sized (mc .marked)
 
   -- a class's entry is the class of its first member's
   pub row-at : (k : ℕ) → k < count * actions → getD rows k 255 ≡ classOf classes (getD next (firstOf firsts (k / actions) * actions + k % actions) mark)
@@ -58,7 +58,7 @@ module _ {mark states actions count : ℕ} {next classes firsts : List ℕ} (act
           i-inside = digits-lt (pa .inside (k / actions) (state-below acts h)) (action-below k acts)
 
           no-mark : getD next i mark ≡ mark → ⊥
-          no-mark p = q (row-at k h ∙ ap (classOf classes) p ∙ mark-class)
+          no-mark p = q (row-at k h ∙ ap (classOf classes) p ∙ trip-class)
 
   -- a state stands in its class
   abbrev In : ℕ → ℕ → Type 0
@@ -80,7 +80,7 @@ module _ {mark states actions count : ℕ} {next classes firsts : List ℕ} (act
 
       by : Matched (AlikeStates mark actions next) mark (getD next (f * actions + a) mark) mark (getD next (s * actions + a) mark)
           → Matched In mark (getD next (s * actions + a) mark) 255 (getD rows (c * actions + a) 255)
-      by (both-trip p p') = both-trip p' (entry ∙ ap (classOf classes) p ∙ mark-class)
+      by (both-trip p p') = both-trip p' (entry ∙ ap (classOf classes) p ∙ trip-class)
       by (both-go q q' r) = both-go q' no-trip (s-below, same ∙ sym entry)
         where
           f-below : getD next (f * actions + a) mark < states

@@ -9,7 +9,7 @@ use Rattle.automaton.specs.Machine.{Machine, AlikeStates}
 use Rattle.automaton.specs.Partition.{classOf, SameSignature, Partition, Over, SplitsTo}
 use Rattle.automaton.specs.declared.Refined.{Refined}
 use Rattle.automaton.specs.declared.Refined.the-variants.{Classes, TooMany}
-use Rattle.automaton.proofs.Compared.{signature-sym, signature-trans}
+use Rattle.automaton.proofs.Compared.{signature-equivalence}
 use Rattle.automaton.proofs.Counted.{Classified, one-classified, partition-classified, no-fewer}
 use Rattle.automaton.proofs.Stable.{Sound, over-alike, pass-sound, stable-partition}
 
@@ -46,9 +46,7 @@ module _ (states actions limit count : ℕ) (next classes : List ℕ) (r : Refin
     split-by = rw (e, r .paired) at p
 
     pub no-fewer-found : count ≤ finer
-    no-fewer-found =
-        no-fewer (SameSignature actions next classes) states (signature-sym actions next classes) (signature-trans actions next classes)
-        classes (λ s t d. d .class) count (r .classified) finer split firsts (split-by .1)
+    no-fewer-found = no-fewer (signature-equivalence actions next classes) (λ s t d. d .class) (r .classified) (split-by .1)
 
     -- a pass that finds more classes
     pub refines : length split ≡ states → Refining states actions limit finer next split
@@ -56,7 +54,7 @@ module _ (states actions limit count : ℕ) (next classes : List ℕ) (r : Refin
         record {
           few = split-by .0;
           paired = h;
-          classified = partition-classified (SameSignature actions next classes) states finer split firsts (split-by .1);
+          classified = partition-classified (split-by .1);
           sound = λ mark m. pass-sound mark states actions next classes m (r .paired) (r .sound mark m) finer split firsts (split-by .1);
         }
 

@@ -1,14 +1,15 @@
 -- Laws of partitions of the states by a relation, and of more than `limit` states no two of which are related.
 -- Assumes nothing.
-use mathlib.Core.Path.{_≡_, refl, subst}
+use mathlib.Core.Path.{_≡_, refl, sym, subst, _∙_}
 use mathlib.Core.List.{List}
 use Prim.Native.Nat.{ℕ, suc, _≤_, _<_}
-use native.Mathlib.Decide.{ℕ-discrete, decLt}
+use native.Mathlib.Decide.{ℕ-discrete}
 use native.Mathlib.Omega.{arith}
 use Rattle.automaton.specs.Partition.{classOf, firstOf, Partition, Over, SplitsTo}
 use Rattle.automaton.specs.declared.Refined.{Refined}
 use Rattle.automaton.specs.declared.Refined.the-variants.{Classes, TooMany}
 use Rattle.base.proofs.Pigeon.{pigeon}
+use Rattle.automaton.proofs.Classes.{Equivalence, class-related}
 
 -- f with x at i
 choose : {P : Type 0} → Dec P → ℕ → ℕ → ℕ
@@ -59,44 +60,30 @@ module _ (R : ℕ → ℕ → Type 0) (states : ℕ) where
             | no q ↦ rw (update-other f limit s d q) (apart c d l (omega arith))
           ])
 
-  module _ (symmetric : (s t : ℕ) → R s t → R t s) (transitive : (s t u : ℕ) → R s t → R t u → R s u) (count : ℕ) (classes firsts : List ℕ)
-      (p : Partition R states count classes firsts) where
-    -- states of one class are related
-    pub class-related : (s t : ℕ) → s < states → t < states → classOf classes s ≡ classOf classes t → R s t
-    class-related s t h g e =
-        transitive s (firstOf firsts (classOf classes s)) t
-        (symmetric (firstOf firsts (classOf classes s)) s (p .member s h))
-        (rw e (p .member t g))
+-- where states of one number are related, no more states are pairwise not related than there are numbers
+pub over-not-numbered : {R : ℕ → ℕ → Type 0} {states limit : ℕ} → Over R states limit
+    → (count : ℕ) (f : ℕ → ℕ)
+    → ((s : ℕ) → s < states → f s < count)
+    → ((s t : ℕ) → s < states → t < states → f s ≡ f t → R s t)
+    → count ≤ limit → ⊥
+over-not-numbered {limit = limit} o count f below related h =
+    let g = pigeon (suc limit) count (λ i j. f (o .pick i) ≡ j) hit clash in
+    omega arith
+  where
+    hit : (i : ℕ) → i < suc limit → (j : ℕ) × (j < count) × (f (o .pick i) ≡ j)
+    hit i l = (f (o .pick i), below (o .pick i) (o .inside i (omega arith)), refl)
 
-    between : (s t : ℕ) → s < states → t < states → R s t → R (firstOf firsts (classOf classes s)) (firstOf firsts (classOf classes t))
-    between s t h g r =
-        transitive (firstOf firsts (classOf classes s)) s (firstOf firsts (classOf classes t)) (p .member s h)
-        (transitive s t (firstOf firsts (classOf classes t)) r (symmetric (firstOf firsts (classOf classes t)) t (p .member t g)))
+    clash : (i k j : ℕ) → i < k → k < suc limit → j < count → f (o .pick i) ≡ j → f (o .pick k) ≡ j → ⊥
+    clash i k j l m n a b = o .apart i k l (omega arith) (related (o .pick i) (o .pick k) (o .inside i (omega arith)) (o .inside k (omega arith)) (a ∙ sym b))
 
-    -- related states have one class
-    pub related-class : (s t : ℕ) → s < states → t < states → R s t → classOf classes s ≡ classOf classes t
-    related-class s t h g r =
-        elim (ℕ-discrete (classOf classes s) (classOf classes t)) [
-          | yes e ↦ e
-          | no q ↦ elim (decLt (classOf classes s) (classOf classes t)) [
-            | yes l ↦ absurd (p .apart (classOf classes s) (classOf classes t) l (p .below t g) (between s t h g r))
-            | no m ↦ absurd (p .apart (classOf classes t) (classOf classes s) (omega arith) (p .below s h) (between t s g h (symmetric s t r)))
-          ]
-        ]
+-- nor than there are classes
+pub over-not-partition : {R : ℕ → ℕ → Type 0} {states count : ℕ} {classes firsts : List ℕ}
+    → Partition R states count classes firsts → Equivalence R → (limit : ℕ) → Over R states limit → count ≤ limit → ⊥
+over-not-partition {count = count} {classes} p eq limit o = over-not-numbered o count (classOf classes) (p .below) (class-related p eq)
 
-    -- no more states are pairwise not related than there are classes
-    pub over-not-partition : (limit : ℕ) → Over R states limit → count ≤ limit → ⊥
-    over-not-partition limit o h =
-        let g = pigeon (suc limit) count (λ i j. classOf classes (o .pick i) ≡ j) hit clash in
-        omega arith
-      where
-        hit : (i : ℕ) → i < suc limit → (j : ℕ) × (j < count) × (classOf classes (o .pick i) ≡ j)
-        hit i l = (classOf classes (o .pick i), p .below (o .pick i) (o .inside i (omega arith)), refl)
-
-        clash : (i k j : ℕ) → i < k → k < suc limit → j < count → classOf classes (o .pick i) ≡ j → classOf classes (o .pick k) ≡ j → ⊥
-        clash i k j l m n a b =
-            o .apart i k l (omega arith)
-            (class-related (o .pick i) (o .pick k) (o .inside i (omega arith)) (o .inside k (omega arith)) (cc))
+-- nor than there are
+pub over-not-all : {R : ℕ → ℕ → Type 0} {states : ℕ} → Equivalence R → Over R states states → ⊥
+over-not-all {R} {states} eq o = over-not-numbered o states (λ s. s) (λ s h. h) (λ s t h g e. subst (λ (x : ℕ). R s x) e (eq .reflexive s)) (omega arith)
 
 -- A relation that says the same of states has the same partitions.
 module _ (R Q : ℕ → ℕ → Type 0) (states : ℕ) (to : (s t : ℕ) → s < states → t < states → R s t → Q s t) where

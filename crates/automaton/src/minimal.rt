@@ -1,6 +1,5 @@
 // The quotient of a machine by its classes.
-use crate::signature::class_of;
-use crate::signature::index;
+use crate::signature::class_behind;
 ghost use mathlib.Core.Path.{_≡_};
 ghost use mathlib.Core.List.{_++_};
 ghost use Prim.Native.Nat.{_*_};
@@ -22,7 +21,7 @@ pub fn quotient(
     let mut k = 0;
     while k < count * actions {
         let from = firsts[k / actions] * actions;
-        out[k] = class_of(classes, index(next[from + k % actions]));
+        out[k] = class_behind(next, classes, from + k % actions);
         k += 1;
     }
 }

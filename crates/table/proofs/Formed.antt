@@ -1,13 +1,13 @@
 -- Check 10 from its parts: a header, the length, and entries that fit.
 -- Assumes nothing.
-use mathlib.Core.Path.{_≡_, refl, sym, _∙_, subst}
+use mathlib.Core.Path.{_≡_, _∙_}
 use mathlib.Core.List.{List}
 use Prim.Native.Nat.{ℕ, _+_, _*_, _-_, _≤_, _<_}
 use native.Mathlib.Nat.{mul-le-mul}
 use native.Mathlib.Omega.{arith}
 use lib.ListN.{length, getD, drop, length-drop}
 use Rattle.automaton.specs.Machine.{Machine}
-use Rattle.table.specs.Table.{actionsOf, rowsOf, entriesOf, EntryFits, HeaderFits, WellFormed, RowsFit, CanonicalRows, Canonical}
+use Rattle.table.specs.Table.{actionsOf, rowsOf, entriesOf, EntryFits, WellFormed, RowsFit, CanonicalRows, Canonical}
 use Rattle.table.specs.Answer.{modeNumber, accepted, refused, Loads, accepts, not-canonical, FieldsOf, FormedAs}
 use Rattle.trace.specs.declared.Mode.{Mode}
 

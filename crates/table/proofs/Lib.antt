@@ -2,3 +2,4 @@ pub mod Formed
 pub mod Scan
 pub mod Verdicts
 pub mod Apart
+pub mod Loading

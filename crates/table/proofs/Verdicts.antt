@@ -2,22 +2,20 @@
 -- one's verdicts has fewer rows.
 -- Assumes nothing.
 use mathlib.Core.Path.{_≡_, refl, sym, _∙_, ap, subst}
-use mathlib.Core.Bool.{Bool, true, false, cond, not}
+use mathlib.Core.Bool.{Bool, true, false, not}
 use mathlib.Core.List.{List, []}
-use mathlib.Core.Logic.{_↔_, _⊎_, inl, inr}
+use mathlib.Core.Logic.{_↔_}
 use Prim.Native.Nat.{ℕ, zero, suc, _+_, _*_, _-_, _≤_, _<_}
 use native.Mathlib.Decide.{ℕ-discrete, decLt}
 use native.Mathlib.Nat.{add-sub-of-le}
 use native.Mathlib.Omega.{arith}
-use lib.Dec.{eqb}
-use lib.ListN.{length, getD, drop}
+use lib.ListN.{length, getD}
 use lib.Seq.{ext-getD, getD-drop}
-use borrow.Author.Tests.{eq-eqb, ne-eqb}
-use Rattle.trace.specs.Trace.{Sequence, trips, Alike}
+use Rattle.trace.specs.Trace.{trips, Alike}
 use Rattle.trace.proofs.Laws.{not-both}
 use Rattle.automaton.specs.Machine.{Machine, Numbered, Distinct, transition}
 use Rattle.automaton.proofs.Canonical.{canonical, canonical-entries, fewest}
-use Rattle.table.specs.Table.{typeOf, actionsOf, rowsOf, offsetOf, entriesOf, rowStep, HeaderFits, WellFormed, Canonical, Accepted, judged, verdict, SameVerdicts}
+use Rattle.table.specs.Table.{typeOf, actionsOf, rowsOf, entriesOf, rowStep, HeaderFits, WellFormed, Canonical, Accepted, judged, SameVerdicts}
 use Rattle.table.proofs.Formed.{machine}
 
 -- a type is 1 or 2
@@ -58,8 +56,8 @@ module _ (s t : List ℕ) (fs : WellFormed s) (ft : WellFormed t) (acts : action
   starts v =
       record {
         same = λ w p.
-          same-trip (type12 (typeOf s) (fs .header .type-low) (fs .header .type-high)) (trips (rowStep s) 0 w) (trips (transition 255 (actionsOf s) (entriesOf t)) 0 w)
-          (v .same w p ∙ rw (← types v, ← acts))
+            same-trip (type12 (typeOf s) (fs .header .type-low) (fs .header .type-high)) (trips (rowStep s) 0 w) (trips (transition 255 (actionsOf s) (entriesOf t)) 0 w)
+            (v .same w p ∙ rw (← types v, ← acts));
       }
 
   other : Machine 255 (rowsOf t) (actionsOf s) (entriesOf t)

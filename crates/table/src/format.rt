@@ -1,8 +1,8 @@
 // The header of a table and check 10.
 use crate::Header;
+use crate::rows::entries_fit;
 use base::word;
 use trace::Mode;
-use crate::rows::entries_fit;
 ghost use Rattle.table.specs.Answer.{HeaderRead, Checked};
 
 // The header's fields, where they are in their ranges.
@@ -32,10 +32,18 @@ pub fn header_of(bytes: &[u8]) -> Header
         return Header::BadHeader;
     }
     if kind == 1 {
-        return Header::Fields { mode: Mode::Enforced, actions, rows };
+        return Header::Fields {
+            mode: Mode::Enforced,
+            actions,
+            rows,
+        };
     }
     if kind == 2 {
-        return Header::Fields { mode: Mode::Watched, actions, rows };
+        return Header::Fields {
+            mode: Mode::Watched,
+            actions,
+            rows,
+        };
     }
     Header::BadHeader
 }
@@ -44,14 +52,23 @@ pub fn header_of(bytes: &[u8]) -> Header
 pub fn check(bytes: &[u8]) -> Header
     ensures { λ r. ⌜ Checked (now (bytes .entry)) r ⌝ }
 {
-    let Header::Fields { mode, actions, rows } = header_of(bytes) else {
+    let Header::Fields {
+        mode,
+        actions,
+        rows,
+    } = header_of(bytes)
+    else {
         return Header::BadHeader;
     };
     if bytes.len() != 8 + rows * actions {
         return Header::BadHeader;
     }
     if entries_fit(&bytes[8..], rows) {
-        Header::Fields { mode, actions, rows }
+        Header::Fields {
+            mode,
+            actions,
+            rows,
+        }
     } else {
         Header::BadHeader
     }

@@ -1,21 +1,31 @@
 // Tables: the bytes of a minimal deterministic monitor, the checks on them, and the loader.
 use trace::Mode;
+
 mod format;
 mod loader;
 mod rows;
+
 pub use format::check;
 pub use format::header_of;
 pub use loader::load;
 
 // What a table's header says, where its fields are in their ranges.
 pub enum Header {
-    Fields { mode: Mode, actions: usize, rows: usize },
+    Fields {
+        mode: Mode,
+        actions: usize,
+        rows: usize,
+    },
     BadHeader,
 }
 
 // What the loader answers: an accepted table, or refusal 10 or 11.
 pub enum Loaded {
-    Table { mode: Mode, actions: usize, rows: usize },
+    Table {
+        mode: Mode,
+        actions: usize,
+        rows: usize,
+    },
     Malformed,
     NotCanonical,
 }

@@ -9,11 +9,20 @@ ghost use Rattle.table.specs.Answer.{Loads, answerOf};
 pub fn load(bytes: &[u8]) -> Loaded
     ensures { λ r. ⌜ Loads (now (bytes .entry)) (answerOf r) ⌝ }
 {
-    let Header::Fields { mode, actions, rows } = check(bytes) else {
+    let Header::Fields {
+        mode,
+        actions,
+        rows,
+    } = check(bytes)
+    else {
         return Loaded::Malformed;
     };
     if canonical(&bytes[8..], rows, actions) {
-        Loaded::Table { mode, actions, rows }
+        Loaded::Table {
+            mode,
+            actions,
+            rows,
+        }
     } else {
         Loaded::NotCanonical
     }

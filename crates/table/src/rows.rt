@@ -2,7 +2,7 @@
 use automaton::Refined;
 use base::byte;
 ghost use mathlib.Core.Path.{_≡_};
-ghost use Prim.Native.Nat.{ℕ, _*_, _≤_, _<_};
+ghost use Prim.Native.Nat.{ℕ, _*_, _<_};
 ghost use lib.ListN.{length, getD};
 ghost use Rattle.base.specs.Build.{Decides};
 ghost use Rattle.automaton.specs.Machine.{Numbered, Distinct};
@@ -54,7 +54,10 @@ fn numbered(entries: &[u8], rows: usize, actions: usize) -> bool
         }
         k += 1;
     }
-    met == rows
+    if met < rows {
+        return false;
+    }
+    true
 }
 
 // The entries as next states.
@@ -99,11 +102,21 @@ fn distinct(entries: &[u8], rows: usize, actions: usize) -> bool
     let mut firsts = room_for_firsts();
     let n = entries.len();
     widen(entries, &mut next[..n]);
-    let found = automaton::refine(&next[..n], actions, rows, &mut classes[..rows], &mut other[..rows], &mut firsts);
+    let found = automaton::refine(
+        &next[..n],
+        actions,
+        rows,
+        &mut classes[..rows],
+        &mut other[..rows],
+        &mut firsts,
+    );
     let Refined::Classes(count) = found else {
         return false;
     };
-    count == rows
+    if count < rows {
+        return false;
+    }
+    true
 }
 
 // Check 11: whether the rows are in the stated numbering and no two are alike.

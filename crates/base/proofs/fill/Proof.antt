@@ -1,23 +1,20 @@
 -- `base::fill` meets its contract. The loop's invariant: the value, and then what was there.
 -- Assumes nothing.
-use mathlib.Core.Path.{_≡_, refl, _∙_, ap}
-use mathlib.Core.List.{_++_}
-use Prim.Native.Nat.{ℕ, _≤_, _-_}
+use Prim.Native.Nat.{_-_}
 use native.Mathlib.Omega.{arith}
-use borrow.Author.Fill.{fill-none, fill-more}
-use lib.ListN.{length, drop, replicate, length-set}
-use Rattle.base.proofs.Lists.{stored-all}
+use lib.ListN.{length}
+use Rattle.base.proofs.Stored.{Stored, stored-none, stored-more, stored-everywhere}
 use Rattle.base.proofs.fill.Statement.{statement}
 use Rattle.base.proofs.fill.Tie as tie
 
 abbrev Inv-loop : tie.InvT-loop
-Inv-loop bytes₀ value k₀ bytes k = (k ≤ length bytes₀) × (length bytes ≡ length bytes₀) × (bytes ≡ replicate k value ++ drop k bytes₀)
+Inv-loop bytes₀ value k₀ bytes k = Stored (λ j. value) (length bytes₀) bytes₀ bytes k
 
 abbrev μ-loop : tie.MeasureT-loop
 μ-loop bytes₀ value k₀ bytes k = length bytes₀ - k
 
 loop-holds : tie.Need-loop-holds Inv-loop μ-loop
-loop-holds c = (omega arith, refl, fill-none _ (c .args .value))
+loop-holds c = stored-none _ _ _
 
 slice-write-bytes : tie.Need-slice-write-bytes Inv-loop μ-loop
 slice-write-bytes c = omega arith
@@ -29,21 +26,13 @@ loop-less : tie.Need-loop-less Inv-loop μ-loop
 loop-less c = omega arith
 
 loop-again : tie.Need-loop-again Inv-loop μ-loop
-loop-again c = (
-  omega arith,
-  simp length-set (c .before .loop .inv .1),
-  rw (c .before .loop .inv .2) (fill-more (c .before .loop .k) (c .before .before .args .value) (c .before .before .args .bytes .now) (omega arith)),
-)
+loop-again c = stored-more (c .before .loop .inv) (omega arith) (omega arith)
 
 same-length : tie.Need-same-length Inv-loop μ-loop
 same-length c = omega arith
 
 returns : tie.Need-returns Inv-loop μ-loop
-returns c =
-    let s = c .before .loop .k in
-    let l = c .before .before .args .bytes .now in
-    let e : s ≡ length l = omega arith in
-    c .before .loop .inv .2 ∙ stored-all (replicate s (c .before .before .args .value)) l s (omega arith) ∙ ap (λ (n : ℕ). replicate n (c .before .before .args .value)) e
+returns c = stored-everywhere (c .before .loop .inv) (omega arith)
 
 pub fill-spec : {M : Type 1} → statement M
 fill-spec =

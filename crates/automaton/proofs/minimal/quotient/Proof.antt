@@ -1,30 +1,26 @@
 -- `minimal::quotient` meets its contract. The loop's invariant: the quotient's first k entries, and then what was there.
 -- Assumes nothing.
-use mathlib.Core.Path.{_≡_, refl}
-use mathlib.Core.List.{_++_}
-use Prim.Native.Nat.{ℕ, _+_, _*_, _/_, _%_, _≤_, _<_, _-_}
+use Prim.Native.Nat.{ℕ, _+_, _*_, _/_, _%_, _<_, _-_}
 use native.Mathlib.Nat.{div-lt-iff-lt-mul, mod-lt}
 use native.Mathlib.Omega.{arith}
 use borrow.Author.Needs.{needs}
 use mir.Syntax.{w64}
 use mir.Val.{Fits}
-use lib.ListN.{length, drop, length-set}
-use Rattle.base.specs.Build.{build}
+use lib.ListN.{length}
 use Rattle.automaton.specs.Partition.{firstOf}
 use Rattle.automaton.specs.Quotient.{quotientEntry}
-use Rattle.base.proofs.Lists.{build-store}
+use Rattle.base.proofs.Stored.{Stored, stored-none, stored-more, stored-end}
 use Rattle.automaton.proofs.minimal.quotient.Statement.{statement}
 use Rattle.automaton.proofs.minimal.quotient.Tie as tie
 
 abbrev Inv-loop : tie.InvT-loop
-Inv-loop next classes firsts actions count out₀ k₀ out k =
-    (k ≤ count * actions) × (length out ≡ length out₀) × (out ≡ build k (quotientEntry actions next classes firsts) ++ drop k out₀)
+Inv-loop next classes firsts actions count out₀ k₀ out k = Stored (quotientEntry actions next classes firsts) (count * actions) out₀ out k
 
 abbrev μ-loop : tie.MeasureT-loop
 μ-loop next classes firsts actions count out₀ k₀ out k = count * actions - k
 
 loop-holds : tie.Need-loop-holds Inv-loop μ-loop
-loop-holds c = (omega arith, refl, refl)
+loop-holds c = stored-none _ _ _
 
 mul-loop : tie.Need-mul-loop Inv-loop μ-loop
 mul-loop c = omega arith
@@ -54,9 +50,6 @@ module _ (c : tie.In-loop Inv-loop μ-loop) where
     entry-fits : Fits w64 (firstOf (start .args .firsts .now) x * start .args .actions + y)
     entry-fits = omega (arith, entry-inside)
 
-    entry-fits-twice : Fits w64 ((firstOf (start .args .firsts .now) x * start .args .actions + y) * 2)
-    entry-fits-twice = omega (arith, entry-inside)
-
 mul-from : tie.Need-mul-from Inv-loop μ-loop
 mul-from c = omega (arith, row-below c)
 
@@ -66,23 +59,14 @@ shared-slice-read-from c = omega (arith, row-below (c .before))
 mul-from-2 : tie.Need-mul-from-2 Inv-loop μ-loop
 mul-from-2 c = row-fits (c .before) _ (omega (arith, row-below (c .before)))
 
-rem-index : tie.Need-rem-index Inv-loop μ-loop
-rem-index c = omega arith
+rem-class-behind : tie.Need-rem-class-behind Inv-loop μ-loop
+rem-class-behind c = omega arith
 
-add-index : tie.Need-add-index Inv-loop μ-loop
-add-index c = entry-fits (c .before) _ _ (omega (arith, row-below (c .before))) (action-below (c .before))
+add-class-behind : tie.Need-add-class-behind Inv-loop μ-loop
+add-class-behind c = entry-fits (c .before) _ _ (omega (arith, row-below (c .before))) (action-below (c .before))
 
-mul-index : tie.Need-mul-index Inv-loop μ-loop
-mul-index c = entry-fits-twice (c .before) _ _ (omega (arith, row-below (c .before))) (action-below (c .before))
-
-shared-slice-read-index : tie.Need-shared-slice-read-index Inv-loop μ-loop
-shared-slice-read-index c = entry-inside (c .before .before) _ _ (omega (arith, row-below (c .before .before))) (action-below (c .before .before))
-
-index-requires : tie.Need-index-requires Inv-loop μ-loop
-index-requires c κs = search needs
-
-class-of-requires : tie.Need-class-of-requires Inv-loop μ-loop
-class-of-requires c κs = search needs
+class-behind-requires : tie.Need-class-behind-requires Inv-loop μ-loop
+class-behind-requires c κs = entry-inside (c .before) _ _ (omega (arith, row-below (c .before))) (action-below (c .before))
 
 slice-write-out : tie.Need-slice-write-out Inv-loop μ-loop
 slice-write-out c = omega arith
@@ -94,23 +78,13 @@ loop-less : tie.Need-loop-less Inv-loop μ-loop
 loop-less c = omega arith
 
 loop-again : tie.Need-loop-again Inv-loop μ-loop
-loop-again c =
-    let v = c .before .before .before .before .before .loop in
-    let g = start (c .before .before .before .before) .args in
-    let f = quotientEntry (g .actions) (g .next .now) (g .classes .now) (g .firsts .now) in (
-      omega arith,
-      simp length-set (v .inv .1),
-      rw (c .class-of .ensures, c .before .index .ensures, v .inv .2) (build-store f (v .k) (g .out .now) (omega arith)),
-    )
+loop-again c = rw (c .class-behind .ensures) (stored-more (c .before .before .before .loop .inv) (omega arith) (omega arith))
 
 same-length : tie.Need-same-length Inv-loop μ-loop
 same-length c = omega arith
 
 returns : tie.Need-returns Inv-loop μ-loop
-returns c =
-    let z = c .before .before .before .before .before .before in
-    let e : c .before .loop .k ≡ z .args .count * z .args .actions = omega arith in
-    rw (← e) (c .before .loop .inv .2)
+returns c = stored-end (c .before .loop .inv) (omega arith)
 
 pub quotient-spec : {M : Type 1} → statement M
 quotient-spec =
@@ -124,12 +98,9 @@ quotient-spec =
     mul-from
     shared-slice-read-from
     mul-from-2
-    rem-index
-    add-index
-    mul-index
-    shared-slice-read-index
-    index-requires
-    class-of-requires
+    rem-class-behind
+    add-class-behind
+    class-behind-requires
     slice-write-out
     add-k
     loop-less

@@ -8,7 +8,7 @@ use native.Mathlib.Omega.{arith}
 use lib.ListN.{length, length-set}
 use Rattle.automaton.specs.Partition.{SameSignature, Partition}
 use Rattle.automaton.proofs.Grown.{none-yet, joins, begins, exceeds}
-use Rattle.automaton.proofs.Compared.{signature-refl}
+use Rattle.automaton.proofs.Compared.{signature-equivalence}
 use Rattle.automaton.proofs.refinement.pass.Statement.{statement}
 use Rattle.automaton.proofs.refinement.pass.Tie as tie
 
@@ -87,7 +87,7 @@ loop-again c =
       simp length-set (v .inv .2),
       rw (w .2) (simp length-set (v .inv .3)),
       rw (w .3, w .2, w .0 .taken)
-          (begins R (v .s) (v .count) (v .finer) (v .firsts) (v .inv .4) (omega arith) (omega arith) (signature-refl _ _ _ _)
+          (begins R (v .s) (v .count) (v .finer) (v .firsts) (v .inv .4) (omega arith) (omega arith) (signature-equivalence _ _ _ .reflexive _)
           (λ d h. found .ensures .lowest d (rw (w .0 .taken) h))),
     ))
     (λ w. (

@@ -35,35 +35,17 @@ mul-from-t c = omega arith
 actions-holds : tie.Need-actions-holds Inv-actions μ-actions
 actions-holds c = (search needs, λ k h. absurd (omega arith))
 
-add-index : tie.Need-add-index Inv-actions μ-actions
-add-index c = omega arith
+add-class-behind : tie.Need-add-class-behind Inv-actions μ-actions
+add-class-behind c = omega arith
 
-mul-index : tie.Need-mul-index Inv-actions μ-actions
-mul-index c = omega arith
+class-behind-requires : tie.Need-class-behind-requires Inv-actions μ-actions
+class-behind-requires c κs = omega arith
 
-shared-slice-read-index : tie.Need-shared-slice-read-index Inv-actions μ-actions
-shared-slice-read-index c = omega arith
+add-class-behind-2 : tie.Need-add-class-behind-2 Inv-actions μ-actions
+add-class-behind-2 c = omega arith
 
-index-requires : tie.Need-index-requires Inv-actions μ-actions
-index-requires c κs = search needs
-
-class-of-requires-3 : tie.Need-class-of-requires-3 Inv-actions μ-actions
-class-of-requires-3 c κs = search needs
-
-add-index-2 : tie.Need-add-index-2 Inv-actions μ-actions
-add-index-2 c = omega arith
-
-mul-index-2 : tie.Need-mul-index-2 Inv-actions μ-actions
-mul-index-2 c = omega arith
-
-shared-slice-read-index-2 : tie.Need-shared-slice-read-index-2 Inv-actions μ-actions
-shared-slice-read-index-2 c = omega arith
-
-index-requires-2 : tie.Need-index-requires-2 Inv-actions μ-actions
-index-requires-2 c κs = search needs
-
-class-of-requires-4 : tie.Need-class-of-requires-4 Inv-actions μ-actions
-class-of-requires-4 c κs = search needs
+class-behind-requires-2 : tie.Need-class-behind-requires-2 Inv-actions μ-actions
+class-behind-requires-2 c κs = omega arith
 
 add-a : tie.Need-add-a Inv-actions μ-actions
 add-a c = omega arith
@@ -72,14 +54,14 @@ actions-less : tie.Need-actions-less Inv-actions μ-actions
 actions-less c = omega arith
 
 actions-again : tie.Need-actions-again Inv-actions μ-actions
-actions-again c = (omega arith, below-more _ _ (c .before .before .before .before .before .before .before .before .actions .inv .1) (cc))
+actions-again c = (omega arith, below-more _ _ (c .before .before .before .before .actions .inv .1) (cc))
 
 returns-2 : tie.Need-returns-2 Inv-actions μ-actions
 returns-2 c =
     let g = c .before .before .before .before .before .before .before .args in
     ⊎-elim
     (λ w. all-compared (g .actions) (g .next .now) (g .classes .now) (g .s) (g .t) (c .before .actions .a) (cc) (omega arith) (c .before .actions .inv .1) (w .left))
-    (λ w. left-at-difference (g .actions) (g .next .now) (g .classes .now) (g .s) (g .t) (c .before .actions .a) (w .0 .taken) (λ e. w .7 .taken (cc)))
+    (λ w. left-at-difference (g .actions) (g .next .now) (g .classes .now) (g .s) (g .t) (c .before .actions .a) (w .0 .taken) (λ e. w .3 .taken (cc)))
     (c .actions-test .came)
 
 pub same-signature-spec : {M : Type 1} → statement M
@@ -94,16 +76,10 @@ same-signature-spec =
     mul-from-s
     mul-from-t
     actions-holds
-    add-index
-    mul-index
-    shared-slice-read-index
-    index-requires
-    class-of-requires-3
-    add-index-2
-    mul-index-2
-    shared-slice-read-index-2
-    index-requires-2
-    class-of-requires-4
+    add-class-behind
+    class-behind-requires
+    add-class-behind-2
+    class-behind-requires-2
     add-a
     actions-less
     actions-again

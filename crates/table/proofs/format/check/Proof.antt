@@ -1,31 +1,22 @@
+-- `table::format::check` meets its contract: the header, then the length, then the entries.
+-- Assumes nothing.
 use borrow.Author.Needs.{needs}
-use mathlib.Core.Path.{_≡_, sym, _∙_}
-use Prim.Native.Nat.{ℕ}
 use native.Mathlib.Omega.{arith}
 use Rattle.base.proofs.Lists.{tail}
-use Rattle.table.specs.Table.{WellFormed, HeaderFits}
-use Rattle.table.specs.Answer.{FieldsOf, FormedAs}
+use Rattle.table.specs.Answer.{FieldsOf}
 use Rattle.table.proofs.Formed.{area, whole-of, formed, misfit}
 use Rattle.table.proofs.format.check.Statement.{statement}
 use Rattle.table.proofs.format.check.Tie as tie
-use Rattle.table.proofs.format.check.Reads as reads
-use Rattle.table.proofs.format.check.Lts as lts
-use Rattle.table.proofs.format.header_of.Reads as header-of-reads
-use Rattle.table.proofs.rows.entries_fit.Reads as entries-fit-reads
 
--- src/format.rt:65:50
 header-of-requires : tie.Need-header-of-requires
 header-of-requires c κs = search needs
 
--- src/format.rt:65:26
 enum-known-mode : tie.Need-enum-known-mode
 enum-known-mode c = search needs
 
--- src/format.rt:66:9
 enum-told : tie.Need-enum-told
 enum-told c = search needs
 
--- src/format.rt:66:9
 module _ (c : tie.After-mode) where
   fields : FieldsOf (c .before .before .before .before .args .bytes .now) (c .mode .given .0 .0) (c .mode .given .0 .1 .0) (c .mode .given .0 .1 .1 .0)
   fields = rw (c .mode .given .1) at (c .before .before .header-of .ensures)
@@ -33,39 +24,30 @@ module _ (c : tie.After-mode) where
 returns : tie.Need-returns
 returns c = λ h. (rw (c .enum-told .given .1) at (c .before .before .header-of .ensures)) (h .header)
 
--- src/format.rt:68:27
 mul-if1 : tie.Need-mul-if1
 mul-if1 c = omega (arith, area _ _ _ _ (fields (c .before)))
 
--- src/format.rt:68:23
 add-if1 : tie.Need-add-if1
 add-if1 c = omega (arith, area _ _ _ _ (fields (c .before)))
 
--- src/format.rt:69:9
 returns-2 : tie.Need-returns-2
-returns-2 c = λ h. c .if1 .taken (whole-of _ _ _ _ (fields (c .before .before)) h)
+returns-2 c = λ h. let whole = whole-of _ _ _ _ (fields (c .before .before)) h in omega (arith, c .if1 .taken)
 
--- src/format.rt:71:20
 sub-entries-fit : tie.Need-sub-entries-fit
 sub-entries-fit c = search needs
 
--- src/format.rt:71:20
 part-entries-fit-start : tie.Need-part-entries-fit-start
 part-entries-fit-start c = search needs
 
--- src/format.rt:71:20
 part-entries-fit-end : tie.Need-part-entries-fit-end
 part-entries-fit-end c = search needs
 
--- src/format.rt:71:8
 entries-fit-requires : tie.Need-entries-fit-requires
 entries-fit-requires c κs = search needs
 
--- src/format.rt:62:1
 returns-3 : tie.Need-returns-3
-returns-3 c = formed _ _ _ _ (fields (c .before .before .before .before .before)) (c .before .before .before .if1 .left) (rw (c .if2 .taken, tail 8) at (c .before .entries-fit .ensures))
+returns-3 c = formed _ _ _ _ (fields (c .before .before .before .before .before)) (omega (arith, c .before .before .before .if1 .left)) (rw (c .if2 .taken, tail 8) at (c .before .entries-fit .ensures))
 
--- src/format.rt:62:1
 returns-4 : tie.Need-returns-4
 returns-4 c = misfit _ _ _ _ (fields (c .before .before .before .before .before)) (rw (c .if2 .left, tail 8) at (c .before .entries-fit .ensures))
 

@@ -1,18 +1,18 @@
 -- `table::rows::distinct` meets its contract: the entries as next states, refined with as many classes as rows.
 -- Assumes nothing.
-use mathlib.Core.Path.{_≡_, refl, sym, _∙_, ap}
+use mathlib.Core.Path.{_≡_, sym, _∙_, ap}
 use mathlib.Core.List.{List, _++_}
 use Prim.Native.Nat.{ℕ, _*_, _≤_}
 use native.Mathlib.Nat.{mul-le-mul}
 use native.Mathlib.Omega.{arith}
-use lib.ListN.{length, take, drop, length-append}
+use lib.ListN.{length, take, length-append}
 use lib.Seq.{length-take-le, take-at}
 use borrow.Author.Needs.{needs}
-use Rattle.base.proofs.Decide.{decides-eqb}
 use Rattle.automaton.specs.Machine.{AlikeStates}
-use Rattle.automaton.specs.Partition.{Refinable, SplitsTo}
-use Rattle.automaton.proofs.Splits.{split-over, split-classes}
-use Rattle.table.proofs.Apart.{all-apart, not-all-apart, not-over}
+use Rattle.automaton.specs.Partition.{Partition, SplitsTo}
+use Rattle.automaton.proofs.Classes.{alike-equivalence}
+use Rattle.automaton.proofs.Splits.{split-over, split-classes, over-not-all}
+use Rattle.table.proofs.Apart.{all-apart, not-all-apart}
 use Rattle.table.proofs.rows.distinct.Statement.{statement}
 use Rattle.table.proofs.rows.distinct.Tie as tie
 
@@ -102,7 +102,7 @@ module _ (c : tie.After-refine) where
   widened = c .before .before .before .before .before .before
 
   splits : SplitsTo (AlikeStates 255 (entry widened .args .actions) (entries widened)) (entry widened .args .rows) (entry widened .args .rows) (c .refine .result)
-    (c .refine .last .1 .1 .1 .0) (c .refine .last .1 .1 .1 .1 .1 .0)
+      (c .refine .last .1 .1 .1 .0) (c .refine .last .1 .1 .1 .1 .1 .0)
   splits = (rw (front widened, all-rows widened) at (c .refine .ensures)) 255 (entry widened .pre .machine)
 
 enum-known-found : tie.Need-enum-known-found
@@ -112,15 +112,33 @@ enum-told : tie.Need-enum-told
 enum-told c = search needs
 
 returns : tie.Need-returns
-returns c =
-    let w = widened (c .before .before .before .before .before) in
-    λ d. not-over (entry w .args .rows) (entry w .args .actions) (entries w) (split-over _ _ _ _ _ _ (c .enum-told .given .1) (splits (c .before .before .before .before .before)))
+returns c d =
+    let r = c .before .before .before .before .before in
+    over-not-all (alike-equivalence 255 (entry (widened r) .args .actions) (entries (widened r))) (split-over _ _ _ _ _ _ (c .enum-told .given .1) (splits r))
+
+-- it found classes
+module _ (c : tie.After-known-told) where
+  abbrev refined : tie.After-refine
+  refined = c .before .before .before .before .before .before
+
+  abbrev like : ℕ → ℕ → Type 0
+  like = AlikeStates 255 (entry (widened refined) .args .actions) (entries (widened refined))
+
+  abbrev rows : ℕ
+  rows = entry (widened refined) .args .rows
+
+  classes : (c .before .found .given .0 .0 ≤ rows) × Partition like rows (c .before .found .given .0 .0) (refined .refine .last .1 .1 .1 .0) (refined .refine .last .1 .1 .1 .1 .1 .0)
+  classes = split-classes _ _ _ _ _ _ _ (c .before .found .given .1) (splits refined)
 
 returns-2 : tie.Need-returns-2
 returns-2 c =
-    let r = c .before .before .before .before .before .before in
-    let s = split-classes _ _ _ _ _ _ _ (c .before .found .given .1) (splits r) in
-    decides-eqb _ (c .before .found .given .0 .0) _ (all-apart _ _ _ _ _ _ (s .1)) (not-all-apart _ _ _ _ _ _ (s .1) (s .0))
+    let s = classes (c .before) in
+    not-all-apart _ _ _ _ _ _ (s .1) (s .0) (λ e. omega arith)
+
+returns-3 : tie.Need-returns-3
+returns-3 c =
+    let s = classes (c .before) in
+    all-apart _ _ _ _ _ _ (s .1) (omega arith)
 
 pub distinct-spec : {M : Type 1} → statement M
 distinct-spec =
@@ -144,4 +162,5 @@ distinct-spec =
     enum-known-found
     enum-told
     returns
-    returns-2)
+    returns-2
+    returns-3)

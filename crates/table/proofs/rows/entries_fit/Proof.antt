@@ -40,11 +40,12 @@ loop-again : tie.Need-loop-again Inv-loop μ-loop
 loop-again c =
     let entries = c .before .before .before .before .before .before .args .entries .now in
     let k = c .before .before .before .before .loop .k in
-    let read : c .before .byte .result ≡ getD entries k 255 = c .before .byte .ensures .0 ∙ getD-within entries k 0 255 (search needs) in
-    (search needs,
-    every-and (λ j. EntryFits _ (getD entries j 255)) k (c .before .before .before .before .loop .fit) (c .entry-fits .result)
-    (c .before .before .before .before .loop .inv .1)
-    (rw read at (c .entry-fits .ensures)))
+    let read : c .before .byte .result ≡ getD entries k 255 = c .before .byte .ensures .0 ∙ getD-within entries k 0 255 (search needs) in (
+      search needs,
+      every-and (λ j. EntryFits _ (getD entries j 255)) k (c .before .before .before .before .loop .fit) (c .entry-fits .result)
+          (c .before .before .before .before .loop .inv .1)
+          (rw read at (c .entry-fits .ensures)),
+    )
 
 returns : tie.Need-returns Inv-loop μ-loop
 returns c = decides-map (λ h k q. h k (omega arith)) (λ h k q. h k (omega arith)) (c .before .loop .fit) (c .before .loop .inv .1)

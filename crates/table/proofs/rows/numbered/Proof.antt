@@ -2,14 +2,12 @@
 -- Assumes nothing.
 use mathlib.Core.Path.{_≡_, sym, _∙_}
 use mathlib.Core.Logic.{⊎-elim}
-use Prim.Native.Nat.{ℕ, _≤_, _<_, _*_, _-_}
+use Prim.Native.Nat.{_≤_, _*_, _-_}
 use native.Mathlib.Nat.{mul-le-mul}
 use native.Mathlib.Omega.{arith}
-use lib.Arith.{lt-of-le-ne}
 use lib.ListN.{length, getD}
 use borrow.Author.Needs.{needs}
 use Rattle.base.proofs.Lists.{getD-within}
-use Rattle.base.proofs.Decide.{decides-eqb}
 use Rattle.table.proofs.Scan.{Scanned, scan-none, scan-known, scan-trip, scan-new, scan-skips, scan-late, scan-all, scan-some}
 use Rattle.table.proofs.rows.numbered.Statement.{statement}
 use Rattle.table.proofs.rows.numbered.Tie as tie
@@ -46,7 +44,7 @@ returns : tie.Need-returns Inv-loop μ-loop
 returns c =
     let b = c .before .before in
     scan-skips _ _ _ (b .before .before .before .before .before .pre) _ _ (scanned b) (b .before .before .loop-test .taken) (λ e. c .before .if1 .taken (read b ∙ e))
-    (rw (read b) at (c .if2 .taken))
+    (omega (arith, c .if2 .taken, read b))
 
 mul-if4 : tie.Need-mul-if4 Inv-loop μ-loop
 mul-if4 c = omega (arith, small (c .before .before .before))
@@ -55,7 +53,7 @@ returns-2 : tie.Need-returns-2 Inv-loop μ-loop
 returns-2 c =
     let b = c .before .before .before .before in
     scan-late _ _ _ (b .before .before .before .before .before .pre) _ _ (scanned b) (b .before .before .loop-test .taken) (λ e. c .before .before .before .if1 .taken (read b ∙ e))
-    (sym (read b) ∙ c .before .if3 .taken) (c .if4 .taken)
+    (sym (read b) ∙ c .before .if3 .taken) (omega (arith, c .if4 .taken))
 
 add-met : tie.Need-add-met Inv-loop μ-loop
 add-met c = omega (arith, scanned (c .before .before .before .before) .few, c .before .before .before .before .before .before .before .before .before .pre .rows-high)
@@ -69,23 +67,33 @@ loop-less c = search needs
 loop-again : tie.Need-loop-again Inv-loop μ-loop
 loop-again c =
     let b = c .before in
-    let fit = b .before .before .before .before .before .pre in
-    (search needs,
-    ⊎-elim
-    (λ w.
-      rw (w .4)
-      (scan-new _ _ _ fit _ _ (scanned b) (b .before .before .loop-test .taken) (λ e. w .0 .taken (read b ∙ e)) (sym (read b) ∙ w .2 .taken) (w .3 .left)))
-    (⊎-elim
-    (λ w. rw (w .3) (scan-known _ _ _ fit _ _ (scanned b) (λ e. w .0 .taken (read b ∙ e)) (rw (read b) at (lt-of-le-ne (w .1 .left) (w .2 .left)))))
-    (λ w. rw (w .1) (scan-trip _ _ _ fit _ _ (scanned b) (sym (read b) ∙ w .0 .left))))
-    (c .if1 .came))
+    let fit = b .before .before .before .before .before .pre in (
+      search needs,
+      ⊎-elim
+          (λ w.
+          rw (w .4)
+          (scan-new _ _ _ fit _ _ (scanned b) (b .before .before .loop-test .taken) (λ e. w .0 .taken (read b ∙ e)) (sym (read b) ∙ w .2 .taken) (omega (arith, w .3 .left))))
+          (⊎-elim
+          (λ w. rw (w .3) (scan-known _ _ _ fit _ _ (scanned b) (λ e. w .0 .taken (read b ∙ e)) (omega (arith, w .1 .left, w .2 .left, read b))))
+          (λ w. rw (w .1) (scan-trip _ _ _ fit _ _ (scanned b) (sym (read b) ∙ w .0 .left))))
+          (c .if1 .came),
+    )
+
+-- every entry is read
+module _ (c : tie.After-loop Inv-loop μ-loop) where
+  abbrev entry : tie.Start Inv-loop μ-loop
+  entry = c .before .before .before
+
+  all-scanned : Scanned (entry .args .rows) (entry .args .actions) (c .before .loop .met) (length (entry .args .entries .now)) (entry .args .entries .now)
+  all-scanned =
+      let end : c .before .loop .k ≡ length (entry .args .entries .now) = omega arith in
+      rw end at (c .before .loop .inv .1)
 
 returns-3 : tie.Need-returns-3 Inv-loop μ-loop
-returns-3 c =
-    let fit = c .before .before .before .pre in
-    let end : c .before .loop .k ≡ length (c .before .before .before .args .entries .now) = omega arith in
-    let sc = rw end at (c .before .loop .inv .1) in
-    decides-eqb _ (c .before .loop .met) (c .before .before .before .args .rows) (scan-all _ _ _ fit _ sc) (scan-some _ _ _ fit _ sc)
+returns-3 c = scan-some _ _ _ (entry (c .before) .pre) _ (all-scanned (c .before)) (λ e. omega arith)
+
+returns-4 : tie.Need-returns-4 Inv-loop μ-loop
+returns-4 c = scan-all _ _ _ (entry (c .before) .pre) _ (all-scanned (c .before)) (omega (arith, all-scanned (c .before) .few))
 
 pub numbered-spec : {M : Type 1} → statement M
 numbered-spec =
@@ -103,4 +111,5 @@ numbered-spec =
     add-k
     loop-less
     loop-again
-    returns-3)
+    returns-3
+    returns-4)

@@ -1,24 +1,23 @@
 -- `table::rows::widen` meets its contract. The loop's invariant: `next` has the entries below k, and then what was there.
 -- Assumes nothing.
-use mathlib.Core.Path.{_≡_, refl, _∙_}
-use mathlib.Core.List.{_++_}
-use Prim.Native.Nat.{ℕ, _≤_, _-_}
+use mathlib.Core.Path.{_∙_}
+use Prim.Native.Nat.{_-_}
 use native.Mathlib.Omega.{arith}
 use borrow.Author.Needs.{needs}
-use lib.ListN.{length, getD, drop, length-set}
-use Rattle.base.specs.Build.{build}
-use Rattle.base.proofs.Lists.{build-store, stored-all, build-getD}
+use lib.ListN.{length, getD}
+use Rattle.base.proofs.Lists.{build-getD, stored-all}
+use Rattle.base.proofs.Stored.{Stored, stored-none, stored-more, stored-end}
 use Rattle.table.proofs.rows.widen.Statement.{statement}
 use Rattle.table.proofs.rows.widen.Tie as tie
 
 abbrev Inv-loop : tie.InvT-loop
-Inv-loop entries next₀ k₀ next k = (k ≤ length entries) × (length next ≡ length next₀) × (next ≡ build k (λ j. getD entries j 0) ++ drop k next₀)
+Inv-loop entries next₀ k₀ next k = Stored (λ j. getD entries j 0) (length entries) next₀ next k
 
 abbrev μ-loop : tie.MeasureT-loop
 μ-loop entries next₀ k₀ next k = length entries - k
 
 loop-holds : tie.Need-loop-holds Inv-loop μ-loop
-loop-holds c = (omega arith, refl, refl)
+loop-holds c = stored-none _ _ _
 
 shared-slice-read-next : tie.Need-shared-slice-read-next Inv-loop μ-loop
 shared-slice-read-next c = omega arith
@@ -39,13 +38,7 @@ loop-less : tie.Need-loop-less Inv-loop μ-loop
 loop-less c = omega arith
 
 loop-again : tie.Need-loop-again Inv-loop μ-loop
-loop-again c =
-    let g = c .before .before .before .args in
-    let k = c .before .before .loop .k in (
-      omega arith,
-      simp length-set (c .before .before .loop .inv .1),
-      rw (c .before .before .loop .inv .2) (build-store (λ j. getD (g .entries .now) j 0) k (g .next .now) (omega (arith, c .before .before .before .pre))),
-    )
+loop-again c = stored-more (c .before .before .loop .inv) (omega arith) (omega (arith, c .before .before .before .pre))
 
 same-length : tie.Need-same-length Inv-loop μ-loop
 same-length c = omega arith
@@ -53,8 +46,8 @@ same-length c = omega arith
 returns : tie.Need-returns Inv-loop μ-loop
 returns c =
     let g = c .before .before .args in
-    let e : c .before .loop .k ≡ length (g .entries .now) = omega arith in
-    c .before .loop .inv .2 ∙ rw (e, build-getD (g .entries .now)) (stored-all (g .entries .now) (g .next .now) (length (g .entries .now)) (omega arith))
+    stored-end (c .before .loop .inv) (omega arith)
+    ∙ rw (build-getD (g .entries .now)) (stored-all (g .entries .now) (g .next .now) (length (g .entries .now)) (omega arith))
 
 pub widen-spec : {M : Type 1} → statement M
 widen-spec =
