@@ -1,10 +1,10 @@
 -- Checks 1 to 3: their tests in plain statements, and the places that they give.
 -- Assumes nothing.
-use mathlib.Core.Path.{_≡_, refl, sym, _∙_}
+use mathlib.Core.Path.{_≡_, refl, sym}
 use mathlib.Core.Bool.{Bool, true, false, cond, _&&_, _||_}
 use mathlib.Core.Logic.{_⊎_, inl, inr, ⊎-map}
 use mathlib.Core.List.{List}
-use Prim.Native.Nat.{ℕ, _≤_, _<_}
+use Prim.Native.Nat.{ℕ, _<_}
 use native.Mathlib.Omega.{arith}
 use lib.Dec.{leb, eqb}
 use lib.ListN.{length}
@@ -92,13 +92,20 @@ module _ (bytes : List ℕ) where
   pub laid : WellLaid bytes → layoutOf bytes ≡ Laid (actionCount bytes) (nodeCount bytes) (actionsAt bytes) (nodesAt bytes)
   laid w = rw (length-right w, counts-right w, areas-right w)
 
-  pub from-laid : {a n p q : ℕ} → layoutOf bytes ≡ Laid a n p q → WellLaid bytes × (n ≡ nodeCount bytes) × (q ≡ nodesAt bytes)
+  pub from-laid : {a n p q : ℕ} → layoutOf bytes ≡ Laid a n p q
+    → WellLaid bytes × (a ≡ actionCount bytes) × (n ≡ nodeCount bytes) × (p ≡ actionsAt bytes) × (q ≡ nodesAt bytes)
   from-laid e =
       let h = from-conds (lengthRight bytes) (countsRight bytes) (areasRight bytes) e in
-      (well-laid (h .0) (h .1) (h .2), (let g = h .3 in cc), (let g = h .3 in cc))
+      let g = h .3 in
+      (well-laid (h .0) (h .1) (h .2), (cc), (cc), (cc), (cc))
 
   pub nodes-laid : {a n p q : ℕ} → layoutOf bytes ≡ Laid a n p q → NodesLaid bytes n q
   nodes-laid e =
       let h = from-laid e in
       let w = h .0 in
-      record { from = h .2; some = omega (arith, w .some-node, h .1); few = omega (arith, w .few-nodes, h .1); inside = omega (arith, w .nodes-inside, w .whole, h .1, h .2) }
+      record {
+        from = h .4;
+        some = omega (arith, w .some-node, h .2);
+        few = omega (arith, w .few-nodes, h .2);
+        inside = omega (arith, w .nodes-inside, w .whole, h .2, h .4)
+      }

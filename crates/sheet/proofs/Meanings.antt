@@ -1,9 +1,8 @@
 -- The meanings of the nodes of a sound sheet: each is made of those of its parts, later nodes change none, and each agrees with its type.
 -- Assumes nothing.
 use mathlib.Core.Path.{_≡_, refl, sym, ap, subst, _∙_}
-use mathlib.Core.Bool.{Bool, true, false, cond}
-use mathlib.Core.List.{List, [], _∷_, _++_}
-use Prim.Native.Nat.{ℕ, zero, suc, _+_, _≤_, _<_}
+use mathlib.Core.List.{List, [], _∷_}
+use Prim.Native.Nat.{ℕ, zero, suc, _<_}
 use native.Mathlib.Decide.{ℕ-discrete}
 use native.Mathlib.Nat.{lt-suc-self}
 use native.Mathlib.Omega.{arith}
@@ -11,18 +10,16 @@ use lib.ListN.{length, getD, length-append, List·getD-append}
 use lib.Seq.{getD-at}
 use Rattle.trace.specs.declared.Mode.{Mode}
 use Rattle.policy.specs.declared.Bound.{Bound}
-use Rattle.policy.specs.declared.Typing.{Typing}
-use Rattle.policy.specs.declared.Typing.the-variants.{Typed, Untyped}
+use Rattle.policy.specs.declared.Typing.the-variants.{Typed}
 use Rattle.policy.specs.Formula.{Formula as ActionFormula, always-false}
 use Rattle.policy.specs.Typing.{typeOf}
 use Rattle.sheet.specs.Sheet.{nodeCount}
 use Rattle.sheet.specs.Node.{nodeOf}
 use Rattle.sheet.specs.Types.{typeAt}
 use Rattle.sheet.specs.Meaning.{Meaning, formula, policy, asPolicy, meaningOf, meaningRead, meanings, nodePolicy}
-use Rattle.sheet.specs.Plain.{PartsBelow, SoundNode, SoundSheet, Agrees}
+use Rattle.sheet.specs.Plain.{PartsBelow, SoundSheet, Agrees}
 use Rattle.sheet.specs.declared.Node.{Node}
 use Rattle.sheet.specs.declared.NodeRead.the-variants.{Read}
-use Rattle.sheet.specs.declared.NodeType.{NodeType}
 use Rattle.sheet.specs.declared.NodeType.the-variants.{Formula, Policy}
 use Rattle.sheet.specs.declared.TypedNode.{TypedNode}
 use Rattle.sheet.proofs.Parts.{meaning-local}

@@ -1,7 +1,7 @@
 -- Laws of the checks of the nodes one by one: a fault stays, and a list of types that grows by one.
 -- Assumes nothing.
-use mathlib.Core.Path.{_≡_, refl, sym, ap, subst, _∙_, fun-ext}
-use mathlib.Core.List.{List, [], _∷_, _++_}
+use mathlib.Core.Path.{_≡_, refl, sym, ap, _∙_, fun-ext}
+use mathlib.Core.List.{List}
 use Prim.Native.Nat.{ℕ, zero, suc, _+_, _*_, _-_, _≤_, _<_}
 use native.Mathlib.Decide.{ℕ-discrete, decLt}
 use native.Mathlib.Numerals.{add-one}
@@ -11,16 +11,14 @@ use lib.Seq.{getD-take, getD-set-other, take-suc-set}
 use Rattle.sheet.specs.Sheet.{nodesAt, field}
 use Rattle.sheet.specs.Node.{readFields, nodeOf}
 use Rattle.sheet.specs.Types.{typeAt, typeNode}
-use Rattle.sheet.specs.Judge.{Outcome, faulty, sound, judgeType, judgeNode, judgeNodes, judgeLast, judgeAll, readFault, typeFault}
+use Rattle.sheet.specs.Judge.{faulty, sound, judgeType, judgeNode, judgeNodes, judgeLast, judgeAll}
 use Rattle.sheet.specs.declared.Fault.{Fault}
 use Rattle.sheet.specs.declared.Node.{Node}
-use Rattle.sheet.specs.declared.NodeRead.{NodeRead}
-use Rattle.sheet.specs.declared.NodeRead.the-variants.{Read, UnknownKind, WrongField}
+use Rattle.sheet.specs.declared.NodeRead.the-variants.{Read}
 use Rattle.sheet.specs.declared.NodeType.{NodeType}
-use Rattle.sheet.specs.declared.NodeType.the-variants.{Formula, Policy}
+use Rattle.sheet.specs.declared.NodeType.the-variants.{Formula}
 use Rattle.sheet.specs.declared.TypedNode.{TypedNode}
-use Rattle.sheet.specs.declared.TypeFound.{TypeFound}
-use Rattle.sheet.specs.declared.TypeFound.the-variants.{Fits, Unfit, TooLong}
+use Rattle.sheet.specs.declared.TypeFound.the-variants.{Fits}
 
 -- the types of the first n nodes, and formulas behind them
 pub record Typed (types : List TypedNode) (n : ℕ) : Type 0 where

@@ -1,6 +1,6 @@
 -- Check 5: the parts of a node that is read are below its number, and its argument is in its range. What a node's type and meaning ask of its parts.
 -- Assumes nothing.
-use mathlib.Core.Path.{_≡_, refl, sym, ap, subst}
+use mathlib.Core.Path.{_≡_, refl, subst}
 use mathlib.Core.Bool.{Bool, true, false, cond, _&&_}
 use mathlib.Core.List.{List}
 use Prim.Native.Nat.{ℕ, _≤_, _<_}
@@ -12,12 +12,12 @@ use Rattle.policy.specs.Formula.{always-false}
 use Rattle.sheet.specs.Sheet.{inRange}
 use Rattle.sheet.specs.Node.{given, noPart, argumentOnly, onePart, twoParts, threeParts, readFields}
 use Rattle.sheet.specs.Types.{typeNode}
-use Rattle.sheet.specs.Meaning.{Meaning, formula, policy, meaningOf}
+use Rattle.sheet.specs.Meaning.{Meaning, formula, meaningOf}
 use Rattle.sheet.specs.Plain.{PartsBelow, ArgumentFits}
 use Rattle.sheet.specs.declared.Node.{Node}
 use Rattle.sheet.specs.declared.Node.the-variants.{True, False, Proposition, Negation, Conjunction, Disjunction, Now, Holds, Count, Not, And, Or, Eventually, Always, BeforeMinus, BeforePlus, AfterMinus, AfterPlus, Fulfilling, Ignoring}
 use Rattle.sheet.specs.declared.NodeRead.{NodeRead}
-use Rattle.sheet.specs.declared.NodeRead.the-variants.{Read, UnknownKind, WrongField}
+use Rattle.sheet.specs.declared.NodeRead.the-variants.{Read, UnknownKind}
 use Rattle.sheet.specs.declared.NodeType.{NodeType}
 use Rattle.sheet.proofs.Header.{and-true}
 

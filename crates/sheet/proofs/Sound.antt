@@ -2,17 +2,17 @@
 -- and the last one is a policy. Assumes nothing.
 use mathlib.Core.Path.{_≡_, refl, sym, ap, subst, _∙_}
 use mathlib.Core.List.{List, [], _∷_, _++_}
-use Prim.Native.Nat.{ℕ, zero, suc, _+_, _-_, _≤_, _<_}
+use Prim.Native.Nat.{ℕ, zero, suc, _+_, _-_, _<_}
 use native.Mathlib.Decide.{ℕ-discrete}
 use native.Mathlib.Omega.{arith}
-use lib.ListN.{length, getD, length-append, List·getD-append}
+use lib.ListN.{length, length-append, List·getD-append}
 use lib.Seq.{getD-at}
 use Rattle.trace.specs.declared.Mode.{Mode}
 use Rattle.policy.specs.declared.Bound.{Bound}
 use Rattle.sheet.specs.Sheet.{nodeCount, field}
 use Rattle.sheet.specs.Node.{nodeOf}
 use Rattle.sheet.specs.Types.{typeAt, typeNode}
-use Rattle.sheet.specs.Judge.{Outcome, faulty, sound, judgeType, judgeNode, judgeNodes, judgeLast, judgeAll, judgeLaid, judge, unlessFaulty, layoutOf}
+use Rattle.sheet.specs.Judge.{Outcome, faulty, sound, judgeType, judgeNode, judgeNodes, judgeLast, judgeLaid, judge, unlessFaulty, layoutOf}
 use Rattle.sheet.specs.Plain.{WellLaid, SoundNode, SoundSheet}
 use Rattle.sheet.specs.declared.Fault.{Fault}
 use Rattle.sheet.specs.declared.Layout.{Layout}
@@ -142,7 +142,7 @@ module _ (bytes : List ℕ) where
       let w = from-laid bytes p in
       let o = from-unless (judgeNodes bytes n) (λ types. judgeLast (n - 1) types (typeAt types (n - 1))) e in
       let t = from-last (n - 1) (o .0) (typeAt (o .0) (n - 1)) (o .2) in
-      whole n (o .0) (w .0) (w .1) (t .3) (o .1) (t .2)
+      whole n (o .0) (w .0) (w .2) (t .3) (o .1) (t .2)
 
   pub sound-sheet : {types : List TypedNode} → judge bytes ≡ sound types → SoundSheet bytes types
   sound-sheet e = from-judged (layoutOf bytes) refl e
