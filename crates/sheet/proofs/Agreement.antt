@@ -75,7 +75,7 @@ module _ (types : ℕ → NodeType) (before : List Meaning) (n : ℕ) (agree : (
       rw (means a ha (u .2), means b hb (v .1))
 
   agree-fulfilling : (k a b c : ℕ) → a < n → b < n → c < n → {m : Mode} {l : Bound} → typeFulfilling k (s a) (s b) (s c) ≡ Typed m l
-    → typeFulfilling k (typeOf (p a)) (typeOf (p b)) (typeOf (p c)) ≡ typeFulfilling k (s a) (s b) (s c)
+      → typeFulfilling k (typeOf (p a)) (typeOf (p b)) (typeOf (p c)) ≡ typeFulfilling k (s a) (s b) (s c)
   agree-fulfilling k a b c ha hb hc e =
       let u = from-watched (s a) (λ i. ifEnforced (s b) (λ j. ifEnforced (s c) (timed k i j))) e in
       let v = from-enforced (s b) (λ j. ifEnforced (s c) (timed k (u .0) j)) (u .2) in
@@ -84,14 +84,14 @@ module _ (types : ℕ → NodeType) (before : List Meaning) (n : ℕ) (agree : (
 
   -- both parts of kinds 18 to 21
   both-watched : (a b : ℕ) → a < n → b < n → (f : Bound → Bound → Typing) → {m : Mode} {k : Bound} → ifWatched (s a) (λ j. ifWatched (s b) (f j)) ≡ Typed m k
-    → (typeOf (p a) ≡ s a) × (typeOf (p b) ≡ s b)
+      → (typeOf (p a) ≡ s a) × (typeOf (p b) ≡ s b)
   both-watched a b ha hb f e =
       let u = from-watched (s a) (λ j. ifWatched (s b) (f j)) e in
       let v = from-watched (s b) (f (u .0)) (u .2) in
       (means a ha (u .1), means b hb (v .1))
 
   then-enforced : (a b : ℕ) → a < n → b < n → (f : Bound → Bound → Typing) → {m : Mode} {k : Bound} → ifWatched (s a) (λ j. ifEnforced (s b) (f j)) ≡ Typed m k
-    → (typeOf (p a) ≡ s a) × (typeOf (p b) ≡ s b)
+      → (typeOf (p a) ≡ s a) × (typeOf (p b) ≡ s b)
   then-enforced a b ha hb f e =
       let u = from-watched (s a) (λ j. ifEnforced (s b) (f j)) e in
       let v = from-enforced (s b) (f (u .0)) (u .2) in

@@ -69,7 +69,7 @@ module _ (bytes : List ℕ) where
         nodes-behind = leb-true _ _ (a₀ .1);
         actions-inside = leb-true _ _ (a₁ .0);
         nodes-inside = leb-true _ _ (a₁ .1);
-        apart = ⊎-map (leb-true (actionsEnd bytes) (nodesAt bytes)) (leb-true (nodesEnd bytes) (actionsAt bytes)) (or-true (leb (actionsEnd bytes) (nodesAt bytes)) (leb (nodesEnd bytes) (actionsAt bytes)) (a′ .1))
+        apart = ⊎-map (leb-true (actionsEnd bytes) (nodesAt bytes)) (leb-true (nodesEnd bytes) (actionsAt bytes)) (or-true (leb (actionsEnd bytes) (nodesAt bytes)) (leb (nodesEnd bytes) (actionsAt bytes)) (a′ .1));
       }
 
   pub length-right : WellLaid bytes → lengthRight bytes ≡ true
@@ -93,7 +93,7 @@ module _ (bytes : List ℕ) where
   laid w = rw (length-right w, counts-right w, areas-right w)
 
   pub from-laid : {a n p q : ℕ} → layoutOf bytes ≡ Laid a n p q
-    → WellLaid bytes × (a ≡ actionCount bytes) × (n ≡ nodeCount bytes) × (p ≡ actionsAt bytes) × (q ≡ nodesAt bytes)
+      → WellLaid bytes × (a ≡ actionCount bytes) × (n ≡ nodeCount bytes) × (p ≡ actionsAt bytes) × (q ≡ nodesAt bytes)
   from-laid e =
       let h = from-conds (lengthRight bytes) (countsRight bytes) (areasRight bytes) e in
       let g = h .3 in
@@ -107,5 +107,5 @@ module _ (bytes : List ℕ) where
         from = h .4;
         some = omega (arith, w .some-node, h .2);
         few = omega (arith, w .few-nodes, h .2);
-        inside = omega (arith, w .nodes-inside, w .whole, h .2, h .4)
+        inside = omega (arith, w .nodes-inside, w .whole, h .2, h .4);
       }

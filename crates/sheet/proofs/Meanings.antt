@@ -65,7 +65,7 @@ module _ (bytes : List ℕ) (types : List TypedNode) (sheet : SoundSheet bytes t
   agrees-below (suc m) n h g = go (λ i p. agrees-below m i (omega arith) (omega arith))
     where
       go : ((i : ℕ) → i < n → Agrees (typeAt types i) (getD (meanings bytes (nodeCount bytes)) i (formula always-false)))
-        → Agrees (typeAt types n) (getD (meanings bytes (nodeCount bytes)) n (formula always-false))
+          → Agrees (typeAt types n) (getD (meanings bytes (nodeCount bytes)) n (formula always-false))
       go ih =
           let s = sheet .nodes n g in
           subst (Agrees (typeAt types n)) (sym (meaning-of bytes (nodeCount bytes) n (formula always-false) (s .node) g (s .read) (s .parts)))
@@ -81,7 +81,7 @@ module _ (bytes : List ℕ) (types : List TypedNode) (sheet : SoundSheet bytes t
 
     -- one that is typed as a policy means a policy of that type
     pub policy-of : {m : Mode} {k : Bound} → typeAt types n ≡ Policy m k
-      → (getD (meanings bytes (nodeCount bytes)) n (formula always-false) ≡ policy (nodePolicy bytes n)) × (typeOf (nodePolicy bytes n) ≡ Typed m k)
+        → (getD (meanings bytes (nodeCount bytes)) n (formula always-false) ≡ policy (nodePolicy bytes n)) × (typeOf (nodePolicy bytes n) ≡ Typed m k)
     policy-of e =
         let p = agrees-policy (getD (meanings bytes (nodeCount bytes)) n (formula always-false)) (rw e at agrees) in
         (p .0 ∙ ap (λ (x : Meaning). policy (asPolicy x)) stays, ap (λ (x : Meaning). typeOf (asPolicy x)) (sym stays) ∙ p .1)

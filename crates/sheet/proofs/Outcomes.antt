@@ -55,7 +55,7 @@ typed-none = record { long = refl; rest = λ k h. all-formulas 64 k }
 module _ (bytes : List ℕ) where
   -- the fields of node n stand where the code reads them
   pub node-at : (n at : ℕ) → at ≡ nodesAt bytes + 5 * n
-    → readFields n (getD bytes at 0) (getD bytes (at + 1) 0) (getD bytes (at + 2) 0) (getD bytes (at + 3) 0) (getD bytes (at + 4) 0) ≡ nodeOf bytes n
+      → readFields n (getD bytes at 0) (getD bytes (at + 1) 0) (getD bytes (at + 2) 0) (getD bytes (at + 3) 0) (getD bytes (at + 4) 0) ≡ nodeOf bytes n
   node-at n at e = rw e (ap (λ (i : ℕ). readFields n (getD bytes i 0) (field bytes n 1) (field bytes n 2) (field bytes n 3) (field bytes n 4)) (omega arith))
 
   -- a fault stays
@@ -81,7 +81,7 @@ module _ (bytes : List ℕ) where
       fault-type nodes f h e = fault-at nodes f h (judge-read ∙ e)
 
       pub sound-more : (t : NodeType) → n < 64 → typeNode node (typeAt types) ≡ Fits t
-        → judgeNodes bytes (n + 1) ≡ sound (take (n + 1) (set types n (record { of = t })))
+          → judgeNodes bytes (n + 1) ≡ sound (take (n + 1) (set types n (record { of = t })))
       sound-more t h e = rw (add-one n, take-suc-set types n (record { of = t }) (omega (arith, typed .long)), before) (judge-read ∙ rw e)
 
     -- all nodes are sound

@@ -44,7 +44,7 @@ module _ (n : ℕ) where
   fits-none argument a b c node p = fits-given (eqb argument 0 && (eqb a 0 && (eqb b 0 && eqb c 0))) node (λ e. p)
 
   fits-argument : (low high argument a b c : ℕ) (node : Node) → (low ≤ argument → argument ≤ high → PartsBelow n node × ArgumentFits node)
-    → ReadFits n (argumentOnly low high argument a b c node)
+      → ReadFits n (argumentOnly low high argument a b c node)
   fits-argument low high argument a b c node f = fits-given (inRange low high argument && (eqb a 0 && (eqb b 0 && eqb c 0))) node from
     where
       from : inRange low high argument && (eqb a 0 && (eqb b 0 && eqb c 0)) ≡ true → PartsBelow n node × ArgumentFits node
@@ -67,8 +67,8 @@ module _ (n : ℕ) where
           f (ltb-true a n (h .0)) (ltb-true b n (and-true (ltb b n) _ (h .1) .0))
 
   fits-three : (argument a b c : ℕ) (node : Node)
-    → (1 ≤ argument → argument ≤ 60 → a < n → b < n → c < n → PartsBelow n node × ArgumentFits node)
-    → ReadFits n (threeParts n argument a b c node)
+      → (1 ≤ argument → argument ≤ 60 → a < n → b < n → c < n → PartsBelow n node × ArgumentFits node)
+      → ReadFits n (threeParts n argument a b c node)
   fits-three argument a b c node f = fits-given (inRange 1 60 argument && (ltb a n && (ltb b n && ltb c n))) node from
     where
       from : inRange 1 60 argument && (ltb a n && (ltb b n && ltb c n)) ≡ true → PartsBelow n node × ArgumentFits node

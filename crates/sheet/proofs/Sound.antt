@@ -99,7 +99,7 @@ module _ (bytes : List ℕ) where
           read = l .read;
           parts = p .0;
           argument = p .1;
-          typed = type-local n (typeAt types) (typeAt (l .before)) kept (l .node) (p .0) ∙ l .fits ∙ ap Fits (sym newest)
+          typed = type-local n (typeAt types) (typeAt (l .before)) kept (l .node) (p .0) ∙ l .fits ∙ ap Fits (sym newest);
         }
 
     earlier-sound : (i : ℕ) → i < n → SoundNode bytes (l .before) i → SoundNode bytes types i
@@ -109,7 +109,7 @@ module _ (bytes : List ℕ) where
           read = s .read;
           parts = s .parts;
           argument = s .argument;
-          typed = type-local i (typeAt types) (typeAt (l .before)) below (s .node) (s .parts) ∙ s .typed ∙ ap Fits (sym (kept i h))
+          typed = type-local i (typeAt types) (typeAt (l .before)) below (s .node) (s .parts) ∙ s .typed ∙ ap Fits (sym (kept i h));
         }
       where
         below : (k : ℕ) → k < i → typeAt types k ≡ typeAt (l .before) k
@@ -124,7 +124,7 @@ module _ (bytes : List ℕ) where
       go l (no q) ih = earlier-sound m types l n (omega arith) (ih l (omega arith))
 
   whole : (n : ℕ) (before : List TypedNode) {types : List TypedNode} {m : Mode} {k : Bound} → WellLaid bytes → n ≡ nodeCount bytes → before ≡ types
-    → judgeNodes bytes n ≡ sound before → typeAt before (n - 1) ≡ Policy m k → SoundSheet bytes types
+      → judgeNodes bytes n ≡ sound before → typeAt before (n - 1) ≡ Policy m k → SoundSheet bytes types
   whole n before {types} {m} {k} w p q all last =
       let all′ : judgeNodes bytes (nodeCount bytes) ≡ sound types = rw (p, q) at all in
       record {
@@ -133,7 +133,7 @@ module _ (bytes : List ℕ) where
         nodes = nodes-sound (nodeCount bytes) types all′;
         last-mode = m;
         last-bound = k;
-        last = rw (p, q) at last
+        last = rw (p, q) at last;
       }
 
   from-judged : (l : Layout) → layoutOf bytes ≡ l → {types : List TypedNode} → judgeLaid bytes l ≡ sound types → SoundSheet bytes types

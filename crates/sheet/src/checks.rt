@@ -12,7 +12,7 @@ use crate::nodes::read_node;
 use crate::types::type_at;
 use crate::types::type_node;
 ghost use mathlib.Core.Path.{_≡_};
-ghost use Rattle.sheet.specs.Judge.{NodesLaid, readFault, typeFault, judgeAll, outcomeOf};
+ghost use Rattle.sheet.specs.Judge.{NodesLaid, faulty, readFault, typeFault, judgeAll, outcomeOf};
 
 // The fault of a node that fails check 4 or 5.
 fn read_fault(read: NodeRead, n: usize) -> Fault
@@ -36,29 +36,46 @@ fn type_fault(found: TypeFound, n: usize) -> Fault
     }
 }
 
+// A sheet with a fault.
+fn refused(fault: Fault) -> JudgedSheet
+    ensures { λ r. ⌜ outcomeOf r ≡ faulty fault ⌝ }
+{
+    JudgedSheet {
+        judged: Judged::Faulty(fault),
+        types: [TypedNode {
+            of: NodeType::Formula,
+        }; 64],
+    }
+}
+
 // The nodes, one by one, and that the last is a policy.
 fn judge_nodes(bytes: &[u8], nodes: usize, start: usize) -> JudgedSheet
     requires { ⌜ NodesLaid (now bytes) nodes start ⌝ }
     ensures { λ r. ⌜ outcomeOf r ≡ judgeAll (now (bytes .entry)) nodes ⌝ }
 {
-    let mut types = [TypedNode { of: NodeType::Formula }; 64];
+    let mut types = [TypedNode {
+        of: NodeType::Formula,
+    }; 64];
     let mut n = 0;
     while n < nodes {
         let read = read_node(bytes, start + 5 * n, n);
         let NodeRead::Read(node) = read else {
-            return JudgedSheet { judged: Judged::Faulty(read_fault(read, n)), types };
+            return refused(read_fault(read, n));
         };
         let found = type_node(node, types);
         let TypeFound::Fits(t) = found else {
-            return JudgedSheet { judged: Judged::Faulty(type_fault(found, n)), types };
+            return refused(type_fault(found, n));
         };
         types[n] = TypedNode { of: t };
         n += 1;
     }
     let NodeType::Policy(_, _) = type_at(types, nodes - 1) else {
-        return JudgedSheet { judged: Judged::Faulty(Fault::WrongTypeAt(nodes - 1)), types };
+        return refused(Fault::WrongTypeAt(nodes - 1));
     };
-    JudgedSheet { judged: Judged::Sound(nodes), types }
+    JudgedSheet {
+        judged: Judged::Sound(nodes),
+        types,
+    }
 }
 
 // The first fault of any bytes, or none and the types of the nodes.
@@ -66,10 +83,12 @@ pub fn judge(bytes: &[u8]) -> JudgedSheet
     ensures { λ r. ⌜ outcomeOf r ≡ Rattle.sheet.specs.Judge.judge (now (bytes .entry)) ⌝ }
 {
     match find_layout(bytes) {
-        Layout::Laid { actions: _, nodes, actions_at: _, nodes_at } => judge_nodes(bytes, nodes, nodes_at),
-        Layout::Misplaced(fault) => JudgedSheet {
-            judged: Judged::Faulty(fault),
-            types: [TypedNode { of: NodeType::Formula }; 64],
-        },
+        Layout::Laid {
+            actions: _,
+            nodes,
+            actions_at: _,
+            nodes_at,
+        } => judge_nodes(bytes, nodes, nodes_at),
+        Layout::Misplaced(fault) => refused(fault),
     }
 }

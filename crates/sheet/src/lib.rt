@@ -1,10 +1,12 @@
 // Rule sheets: the serialised syntax tree of a policy, and checks 1 to 7.
 use policy::Bound;
 use trace::Mode;
+
+mod checks;
 mod layouts;
 mod nodes;
 mod types;
-mod checks;
+
 pub use checks::judge;
 pub use layouts::find_layout;
 pub use nodes::read_node;

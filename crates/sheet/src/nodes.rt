@@ -26,10 +26,21 @@ fn no_part(argument: usize, a: usize, b: usize, c: usize, node: Node) -> NodeRea
 }
 
 // A node with an argument from low to high and no part.
-fn argument_only(low: usize, high: usize, argument: usize, a: usize, b: usize, c: usize, node: Node) -> NodeRead
+fn argument_only(
+    low: usize,
+    high: usize,
+    argument: usize,
+    a: usize,
+    b: usize,
+    c: usize,
+    node: Node,
+) -> NodeRead
     ensures { λ r. ⌜ r ≡ argumentOnly low high argument a b c node ⌝ }
 {
-    given(((low <= argument) & (argument <= high)) & ((a == 0) & ((b == 0) & (c == 0))), node)
+    given(
+        ((low <= argument) & (argument <= high)) & ((a == 0) & ((b == 0) & (c == 0))),
+        node,
+    )
 }
 
 // A node with one part, lower than its own number n.
@@ -50,7 +61,10 @@ fn two_parts(n: usize, argument: usize, a: usize, b: usize, c: usize, node: Node
 fn three_parts(n: usize, argument: usize, a: usize, b: usize, c: usize, node: Node) -> NodeRead
     ensures { λ r. ⌜ r ≡ threeParts n argument a b c node ⌝ }
 {
-    given(((1 <= argument) & (argument <= 60)) & ((a < n) & ((b < n) & (c < n))), node)
+    given(
+        ((1 <= argument) & (argument <= 60)) & ((a < n) & ((b < n) & (c < n))),
+        node,
+    )
 }
 
 // Node n, from its five fields: the kind, the argument, the parts.

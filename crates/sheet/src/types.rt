@@ -24,7 +24,7 @@ pub fn type_at(types: [TypedNode; 64], i: usize) -> NodeType
 }
 
 // The type of a part that has to be a policy.
-fn policy_at(types: [TypedNode; 64], i: usize) -> Typing
+fn part_at(types: [TypedNode; 64], i: usize) -> Typing
     ensures { λ r. ⌜ r ≡ typingOf (typeAt types i) ⌝ }
 {
     match type_at(types, i) {
@@ -33,11 +33,11 @@ fn policy_at(types: [TypedNode; 64], i: usize) -> Typing
     }
 }
 
-// A part that has to be an action formula.
-fn if_formula(part: NodeType, found: TypeFound) -> TypeFound
-    ensures { λ r. ⌜ r ≡ ifFormula part found ⌝ }
+// What is found, where part i is an action formula.
+fn if_formula(types: [TypedNode; 64], i: usize, found: TypeFound) -> TypeFound
+    ensures { λ r. ⌜ r ≡ ifFormula (typeAt types i) found ⌝ }
 {
-    match part {
+    match type_at(types, i) {
         NodeType::Formula => found,
         NodeType::Policy(_, _) => TypeFound::Unfit,
     }
@@ -96,7 +96,11 @@ fn larger(j: Bound, k: Bound) -> Bound
     let Bound::Finite(y) = k else {
         return Bound::Unbounded;
     };
-    if x < y { Bound::Finite(y) } else { Bound::Finite(x) }
+    if x < y {
+        Bound::Finite(y)
+    } else {
+        Bound::Finite(x)
+    }
 }
 
 // Check 7 of a sum of bounds, each of any size: a sum that does not fit is not added up.
@@ -258,28 +262,30 @@ pub fn type_node(node: Node, types: [TypedNode; 64]) -> TypeFound
     ensures { λ r. ⌜ r ≡ typeNode node (typeAt types) ⌝ }
 {
     let formula = TypeFound::Fits(NodeType::Formula);
+    let one = Bound::Finite(1);
     match node {
         Node::True => formula,
         Node::False => formula,
         Node::Proposition(_) => formula,
-        Node::Negation(a) => if_formula(type_at(types, a), formula),
-        Node::Conjunction(a, b) => if_formula(type_at(types, a), if_formula(type_at(types, b), formula)),
-        Node::Disjunction(a, b) => if_formula(type_at(types, a), if_formula(type_at(types, b), formula)),
-        Node::Now(a) => if_formula(type_at(types, a), found(Typing::Typed(Mode::Watched, Bound::Finite(1)))),
-        Node::Holds(a) => if_formula(type_at(types, a), found(Typing::Typed(Mode::Enforced, Bound::Finite(1)))),
+        Node::Negation(a) => if_formula(types, a, formula),
+        Node::Conjunction(a, b) => if_formula(types, a, if_formula(types, b, formula)),
+        Node::Disjunction(a, b) => if_formula(types, a, if_formula(types, b, formula)),
+        Node::Now(a) => if_formula(types, a, found(Typing::Typed(Mode::Watched, one))),
+        Node::Holds(a) => if_formula(types, a, found(Typing::Typed(Mode::Enforced, one))),
         Node::Count(k) => found(type_count(k)),
-        Node::Not(a) => found(type_not(policy_at(types, a))),
-        Node::And(a, b) => found(alike_typed(policy_at(types, a), policy_at(types, b))),
-        Node::Or(a, b) => found(alike_typed(policy_at(types, a), policy_at(types, b))),
-        Node::Eventually(a) => found(type_eventually(policy_at(types, a))),
-        Node::Always(a) => found(type_always(policy_at(types, a))),
-        Node::BeforeMinus(a, b) => found(type_before_minus(policy_at(types, a), policy_at(types, b))),
-        Node::BeforePlus(a, b) => found(type_before_plus(policy_at(types, a), policy_at(types, b))),
-        Node::AfterMinus(a, b) => found_after_minus(policy_at(types, a), policy_at(types, b)),
-        Node::AfterPlus(a, b) => found_after_plus(policy_at(types, a), policy_at(types, b)),
+        Node::Not(a) => found(type_not(part_at(types, a))),
+        Node::And(a, b) => found(alike_typed(part_at(types, a), part_at(types, b))),
+        Node::Or(a, b) => found(alike_typed(part_at(types, a), part_at(types, b))),
+        Node::Eventually(a) => found(type_eventually(part_at(types, a))),
+        Node::Always(a) => found(type_always(part_at(types, a))),
+        Node::BeforeMinus(a, b) => found(type_before_minus(part_at(types, a), part_at(types, b))),
+        Node::BeforePlus(a, b) => found(type_before_plus(part_at(types, a), part_at(types, b))),
+        Node::AfterMinus(a, b) => found_after_minus(part_at(types, a), part_at(types, b)),
+        Node::AfterPlus(a, b) => found_after_plus(part_at(types, a), part_at(types, b)),
         Node::Fulfilling(k, a, b, c) => {
-            found_fulfilling(k, policy_at(types, a), policy_at(types, b), policy_at(types, c))
+            let s = part_at(types, a);
+            found_fulfilling(k, s, part_at(types, b), part_at(types, c))
         }
-        Node::Ignoring(a, b) => if_formula(type_at(types, a), found(type_ignoring(policy_at(types, b)))),
+        Node::Ignoring(a, b) => if_formula(types, a, found(type_ignoring(part_at(types, b)))),
     }
 }

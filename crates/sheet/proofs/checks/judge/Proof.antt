@@ -13,7 +13,7 @@ returns : tie.Need-returns
 returns c = c .judge-nodes .ensures ∙ rw (sym (c .before .before .before .before .find-layout .ensures) ∙ c .before .before .nodes .given .1)
 
 returns-2 : tie.Need-returns-2
-returns-2 c = rw (sym (c .before .before .before .find-layout .ensures) ∙ c .before .fault .given .1)
+returns-2 c = c .refused .ensures ∙ rw (sym (c .before .before .before .before .find-layout .ensures) ∙ c .before .before .fault .given .1)
 
 pub judge-spec : {M : Type 1} → statement M
 judge-spec =
@@ -23,5 +23,6 @@ judge-spec =
     (λ c. search needs)
     judge-nodes-requires
     (λ c. search needs)
+    (λ c κs. search needs)
     returns
     returns-2)

@@ -65,8 +65,9 @@ module _ (c : tie.After-read-node Inv-loop μ-loop) where
 
 returns : tie.Need-returns Inv-loop μ-loop
 returns c =
-    let a = c .before .before in
-    ap faulty (c .read-fault .ensures) ∙ read-faulty a _ (not-read (n a) (take (n a) (found-so-far a)) (a .read-node .result) (c .before .match .keys2))
+    let a = c .before .before .before in
+    c .refused .ensures ∙ ap faulty (c .before .read-fault .ensures)
+    ∙ read-faulty a _ (not-read (n a) (take (n a) (found-so-far a)) (a .read-node .result) (c .before .before .match .keys2))
 
 -- and was read, and its type looked for
 module _ (c : tie.After-type-node Inv-loop μ-loop) where
@@ -81,19 +82,21 @@ module _ (c : tie.After-type-node Inv-loop μ-loop) where
 
 returns-2 : tie.Need-returns-2 Inv-loop μ-loop
 returns-2 c =
-    let b = c .before .before in
+    let b = c .before .before .before in
     let a = at b in
-    ap faulty (c .type-fault .ensures)
+    c .refused2 .ensures ∙ ap faulty (c .before .type-fault .ensures)
     ∙ fault-type (bytes a) (n a) (found-so-far a) (a .before .before .loop .inv .1) (a .before .before .loop .inv .2) (node b) (node-is b) (a .before .before .before .before .args .nodes) _ (a .before .loop-test .taken)
-    (ap (judgeType (n a) (take (n a) (found-so-far a))) (sym (b .type-node .ensures)) ∙ not-found (n a) (take (n a) (found-so-far a)) (b .type-node .result) (c .before .match2 .keys2))
+    (ap (judgeType (n a) (take (n a) (found-so-far a))) (sym (b .type-node .ensures)) ∙ not-found (n a) (take (n a) (found-so-far a)) (b .type-node .result) (c .before .before .match2 .keys2))
 
 loop-again : tie.Need-loop-again Inv-loop μ-loop
 loop-again c =
     let b = c .before .before .before in
     let a = at b in
-    let t = c .before .found .given .0 .0 in
-    (search needs, typed-more (found-so-far a) (n a) t (a .before .before .loop .inv .1),
-    sound-more (bytes a) (n a) (found-so-far a) (a .before .before .loop .inv .1) (a .before .before .loop .inv .2) (node b) (node-is b) t (omega (arith, a .before .before .before .before .pre .few)) (sym (b .type-node .ensures) ∙ c .before .found .given .1))
+    let t = c .before .found .given .0 .0 in (
+      search needs,
+      typed-more (found-so-far a) (n a) t (a .before .before .loop .inv .1),
+      sound-more (bytes a) (n a) (found-so-far a) (a .before .before .loop .inv .1) (a .before .before .loop .inv .2) (node b) (node-is b) t (omega (arith, a .before .before .before .before .pre .few)) (sym (b .type-node .ensures) ∙ c .before .found .given .1),
+    )
 
 -- all nodes were looked at
 module _ (c : tie.After-type-at Inv-loop μ-loop) where
@@ -103,7 +106,7 @@ module _ (c : tie.After-type-at Inv-loop μ-loop) where
       ∙ rw (c .type-at .ensures)
 
 returns-3 : tie.Need-returns-3 Inv-loop μ-loop
-returns-3 c = sym (last-is (c .before .before) ∙ rw (c .enum-told2 .given .1))
+returns-3 c = c .refused3 .ensures ∙ sym (last-is (c .before .before .before) ∙ rw (c .before .enum-told2 .given .1))
 
 returns-4 : tie.Need-returns-4 Inv-loop μ-loop
 returns-4 c = sym (last-is (c .before .before) ∙ rw (c .enum-told .given .1))
@@ -120,9 +123,11 @@ judge-nodes-spec =
     (λ c κs. search needs)
     (λ c. search needs)
     (λ c κs. search needs)
+    (λ c κs. search needs)
     returns
     (λ c κs. search needs)
     (λ c. search needs)
+    (λ c κs. search needs)
     (λ c κs. search needs)
     returns-2
     (λ c. search needs)
@@ -135,5 +140,6 @@ judge-nodes-spec =
     (λ c. search needs)
     (λ c. search needs)
     (λ c. search needs)
+    (λ c κs. search needs)
     returns-3
     returns-4)

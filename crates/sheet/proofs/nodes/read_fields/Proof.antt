@@ -67,27 +67,28 @@ returns-20 c = rw (c .before .match .keys20) (c .two-parts9 .ensures)
 
 returns-21 : tie.Need-returns-21
 returns-21 c =
-    rw
-    (ne-eqb (c .before .args .kind) 1 (c .match .rest .0 .0 .0 .0 .0 .0 .0 .0 .0 .0 .0 .0 .0 .0 .0 .0 .0 .0 .0 .1),
-    ne-eqb (c .before .args .kind) 2 (c .match .rest .0 .0 .0 .0 .0 .0 .0 .0 .0 .0 .0 .0 .0 .0 .0 .0 .0 .0 .1),
-    ne-eqb (c .before .args .kind) 3 (c .match .rest .0 .0 .0 .0 .0 .0 .0 .0 .0 .0 .0 .0 .0 .0 .0 .0 .0 .1),
-    ne-eqb (c .before .args .kind) 4 (c .match .rest .0 .0 .0 .0 .0 .0 .0 .0 .0 .0 .0 .0 .0 .0 .0 .0 .1),
-    ne-eqb (c .before .args .kind) 5 (c .match .rest .0 .0 .0 .0 .0 .0 .0 .0 .0 .0 .0 .0 .0 .0 .0 .1),
-    ne-eqb (c .before .args .kind) 6 (c .match .rest .0 .0 .0 .0 .0 .0 .0 .0 .0 .0 .0 .0 .0 .0 .1),
-    ne-eqb (c .before .args .kind) 10 (c .match .rest .0 .0 .0 .0 .0 .0 .0 .0 .0 .0 .0 .0 .0 .1),
-    ne-eqb (c .before .args .kind) 11 (c .match .rest .0 .0 .0 .0 .0 .0 .0 .0 .0 .0 .0 .0 .1),
-    ne-eqb (c .before .args .kind) 12 (c .match .rest .0 .0 .0 .0 .0 .0 .0 .0 .0 .0 .0 .1),
-    ne-eqb (c .before .args .kind) 13 (c .match .rest .0 .0 .0 .0 .0 .0 .0 .0 .0 .0 .1),
-    ne-eqb (c .before .args .kind) 14 (c .match .rest .0 .0 .0 .0 .0 .0 .0 .0 .0 .1),
-    ne-eqb (c .before .args .kind) 15 (c .match .rest .0 .0 .0 .0 .0 .0 .0 .0 .1),
-    ne-eqb (c .before .args .kind) 16 (c .match .rest .0 .0 .0 .0 .0 .0 .0 .1),
-    ne-eqb (c .before .args .kind) 17 (c .match .rest .0 .0 .0 .0 .0 .0 .1),
-    ne-eqb (c .before .args .kind) 18 (c .match .rest .0 .0 .0 .0 .0 .1),
-    ne-eqb (c .before .args .kind) 19 (c .match .rest .0 .0 .0 .0 .1),
-    ne-eqb (c .before .args .kind) 20 (c .match .rest .0 .0 .0 .1),
-    ne-eqb (c .before .args .kind) 21 (c .match .rest .0 .0 .1),
-    ne-eqb (c .before .args .kind) 22 (c .match .rest .0 .1),
-    ne-eqb (c .before .args .kind) 23 (c .match .rest .1))
+    rw (
+      ne-eqb (c .before .args .kind) 1 (c .match .rest .0 .0 .0 .0 .0 .0 .0 .0 .0 .0 .0 .0 .0 .0 .0 .0 .0 .0 .0 .1),
+      ne-eqb (c .before .args .kind) 2 (c .match .rest .0 .0 .0 .0 .0 .0 .0 .0 .0 .0 .0 .0 .0 .0 .0 .0 .0 .0 .1),
+      ne-eqb (c .before .args .kind) 3 (c .match .rest .0 .0 .0 .0 .0 .0 .0 .0 .0 .0 .0 .0 .0 .0 .0 .0 .0 .1),
+      ne-eqb (c .before .args .kind) 4 (c .match .rest .0 .0 .0 .0 .0 .0 .0 .0 .0 .0 .0 .0 .0 .0 .0 .0 .1),
+      ne-eqb (c .before .args .kind) 5 (c .match .rest .0 .0 .0 .0 .0 .0 .0 .0 .0 .0 .0 .0 .0 .0 .0 .1),
+      ne-eqb (c .before .args .kind) 6 (c .match .rest .0 .0 .0 .0 .0 .0 .0 .0 .0 .0 .0 .0 .0 .0 .1),
+      ne-eqb (c .before .args .kind) 10 (c .match .rest .0 .0 .0 .0 .0 .0 .0 .0 .0 .0 .0 .0 .0 .1),
+      ne-eqb (c .before .args .kind) 11 (c .match .rest .0 .0 .0 .0 .0 .0 .0 .0 .0 .0 .0 .0 .1),
+      ne-eqb (c .before .args .kind) 12 (c .match .rest .0 .0 .0 .0 .0 .0 .0 .0 .0 .0 .0 .1),
+      ne-eqb (c .before .args .kind) 13 (c .match .rest .0 .0 .0 .0 .0 .0 .0 .0 .0 .0 .1),
+      ne-eqb (c .before .args .kind) 14 (c .match .rest .0 .0 .0 .0 .0 .0 .0 .0 .0 .1),
+      ne-eqb (c .before .args .kind) 15 (c .match .rest .0 .0 .0 .0 .0 .0 .0 .0 .1),
+      ne-eqb (c .before .args .kind) 16 (c .match .rest .0 .0 .0 .0 .0 .0 .0 .1),
+      ne-eqb (c .before .args .kind) 17 (c .match .rest .0 .0 .0 .0 .0 .0 .1),
+      ne-eqb (c .before .args .kind) 18 (c .match .rest .0 .0 .0 .0 .0 .1),
+      ne-eqb (c .before .args .kind) 19 (c .match .rest .0 .0 .0 .0 .1),
+      ne-eqb (c .before .args .kind) 20 (c .match .rest .0 .0 .0 .1),
+      ne-eqb (c .before .args .kind) 21 (c .match .rest .0 .0 .1),
+      ne-eqb (c .before .args .kind) 22 (c .match .rest .0 .1),
+      ne-eqb (c .before .args .kind) 23 (c .match .rest .1),
+    )
 
 pub read-fields-spec : {M : Type 1} → statement M
 read-fields-spec =

@@ -21,6 +21,7 @@ returns c =
 module _ (c : tie.After-known-told) where
   abbrev b : Typing
   b = c .before .before .before .before .args .t
+
   abbrev j : Bound
   j = c .before .j .given .0 .1 .0
 

@@ -1,8 +1,8 @@
--- `sheet::types::policy_at` meets its contract.
+-- `sheet::types::part_at` meets its contract.
 -- Assumes nothing.
 use borrow.Author.Needs.{needs}
-use Rattle.sheet.proofs.types.policy_at.Statement.{statement}
-use Rattle.sheet.proofs.types.policy_at.Tie as tie
+use Rattle.sheet.proofs.types.part_at.Statement.{statement}
+use Rattle.sheet.proofs.types.part_at.Tie as tie
 
 returns : tie.Need-returns
 returns c = rw (← c .before .before .type-at .ensures, c .enum-told .given .1)
@@ -10,8 +10,8 @@ returns c = rw (← c .before .before .type-at .ensures, c .enum-told .given .1)
 returns-2 : tie.Need-returns-2
 returns-2 c = rw (← c .before .before .before .type-at .ensures, c .before .m .given .1)
 
-pub policy-at-spec : {M : Type 1} → statement M
-policy-at-spec =
+pub part-at-spec : {M : Type 1} → statement M
+part-at-spec =
     tie.close
     (tie.spec
     (λ c κs. search needs)
