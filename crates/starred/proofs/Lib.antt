@@ -1,0 +1,5 @@
+pub mod Tests
+pub mod Bisimulation
+pub mod Tables
+pub mod Machines
+pub mod Cases
