@@ -1,6 +1,6 @@
 -- A computed test that two states are alike, which explores the pairs of states met together, and one that they are not.
 -- Assumes nothing.
-use mathlib.Core.Path.{_≡_, refl, subst, ap₂}
+use mathlib.Core.Path.{_≡_}
 use mathlib.Core.Bool.{Bool, true, false, cond, _&&_, _||_}
 use mathlib.Core.List.{List, [], _∷_, _++_}
 use mathlib.Core.Logic.{_⊎_, inl, inr}
@@ -17,16 +17,20 @@ gather zero f = []
 gather (suc n) f = gather n f ++ f n
 
 module _ {X : Type 0} (same : X → X → Bool) where
-  abbrev pub member : X → List X → Bool
+  abbrev member : X → List X → Bool
   member x [] = false
   member x (y ∷ ys) = same x y || member x ys
 
   -- What is reached from `todo`, in the order met, after `seen`; at most `fuel` elements are looked at.
-  abbrev pub explore : (fuel : ℕ) → (X → List X) → (seen todo : List X) → List X
+  abbrev explore : (fuel : ℕ) → (X → List X) → (seen todo : List X) → List X
   explore zero next seen todo = seen
   explore (suc n) next seen [] = seen
   explore (suc n) next seen (x ∷ todo) =
       explore n next (cond (member x seen) seen (seen ++ (x ∷ []))) (cond (member x seen) todo (todo ++ next x))
+
+  -- What is reached from x, x first. Where 400 elements are too few, the tests below fail.
+  abbrev pub reach : (X → List X) → X → List X
+  reach next x = explore 400 next [] (x ∷ [])
 
 abbrev Couple : Type 0
 Couple = ℕ × ℕ
@@ -58,8 +62,11 @@ module _ (actions : ℕ) (f g : Step ℕ) where
   abbrev bisimulation : List Couple → ℕ → ℕ → Bool
   bisimulation pairs u v = member sameCouple (u, v) pairs && closedAll pairs pairs
 
+  abbrev together : ℕ → ℕ → List Couple
+  together u v = reach sameCouple (λ p. gather actions (λ a. coupled (f (p .0) a) (g (p .1) a))) (u, v)
+
   abbrev pub alikeTest : ℕ → ℕ → Bool
-  alikeTest u v = bisimulation (explore sameCouple 400 (λ p. gather actions (λ a. coupled (f (p .0) a) (g (p .1) a))) [] ((u, v) ∷ [])) u v
+  alikeTest u v = bisimulation (together u v) u v
 
   module _ (pairs : List Couple) where
     closed-member : (ps : List Couple) → closedAll pairs ps ≡ true → (u v : ℕ) → member sameCouple (u, v) ps ≡ true → closedAt pairs u v ≡ true
@@ -95,8 +102,7 @@ module _ (actions : ℕ) (f g : Step ℕ) where
         b = both-true (member sameCouple (u, v) pairs) (closedAll pairs pairs) e
 
   pub alike-sound : (u v : ℕ) → alikeTest u v ≡ true → Alike actions f u g v
-  alike-sound u v e =
-      bisimulation-alike (explore sameCouple 400 (λ p. gather actions (λ a. coupled (f (p .0) a) (g (p .1) a))) [] ((u, v) ∷ [])) u v e
+  alike-sound u v e = bisimulation-alike (together u v) u v e
 
   -- A sequence of at most n actions trips in one and not in the other.
   abbrev differMoves : (ℕ → ℕ → Bool) → Move ℕ → Move ℕ → Bool

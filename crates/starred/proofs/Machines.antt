@@ -4,18 +4,18 @@
 use mathlib.Core.Path.{_≡_, refl, sym, _∙_, ap}
 use mathlib.Core.Bool.{Bool, true, false, cond, _&&_}
 use mathlib.Core.List.{List, [], _∷_, _++_}
-use Prim.Native.Nat.{ℕ, zero, suc, _+_, _*_, _≤_, _<_}
+use Prim.Native.Nat.{ℕ, zero, suc, _+_, _*_, _<_}
 use native.Mathlib.Decide.{decLt}
 use native.Mathlib.Omega.{arith}
-use lib.Dec.{eqb, leb}
+use lib.Dec.{eqb}
 use lib.ListN.{length, getD, List·getD-eq-default}
-use borrow.Author.Tests.{leb-true, eqb-false}
+use borrow.Author.Tests.{eqb-false}
 use Rattle.base.specs.Build.{build}
 use Rattle.trace.specs.Trace.{Move, trip, go, Step, Sequence, trips}
 use Rattle.automaton.specs.Machine.{entryMove, transition}
 use Rattle.policy.specs.Words.{Property}
 use Rattle.policy.specs.Policy.{Policy}
-use Rattle.policy.specs.Rule.{Rule, opening, counting, same, both, either, copied, until, then, timed, filtered, onParts, ruleTrips, ruleOf}
+use Rattle.policy.specs.Rule.{Rule, onParts, ruleTrips, ruleOf}
 use Rattle.policy.specs.Parts.{AllParts}
 use Rattle.policy.specs.Closed.{Below, Closed}
 use Rattle.policy.specs.Trips.{tripsPolicy, Typed}
@@ -25,104 +25,18 @@ use Rattle.policy.proofs.Parts.{all-apply}
 use Rattle.policy.proofs.Rules.{rule-parts, rule-trips}
 use Rattle.policy.proofs.Congruent.{rule-congruent}
 use Rattle.policy.proofs.Steps.{steps-trip}
-use Rattle.rules.specs.Codes.{encode, CountFits, FitRule}
+use Rattle.rules.specs.Codes.{encode, FitRule}
 use Rattle.rules.specs.Steps.{codeStepOf}
 use Rattle.rules.proofs.Fitting.{fit-sound, code-trips}
 use Rattle.starred.proofs.Tests.{not-true, both-true, allBelow, all-below}
-use Rattle.starred.proofs.Bisimulation.{gather, explore, alikeTest, alike-sound}
+use Rattle.starred.proofs.Bisimulation.{gather, reach, alikeTest, alike-sound}
+use Rattle.starred.proofs.RuleTests.{partsPass, countFits, parts-pass, counted, all-both, on-parts-compose}
 use Rattle.starred.proofs.Tables.{entryFits, entry-fits}
 
--- A test that every part passes, and one of the rule's count.
-abbrev partsPass : {P : Type 0} → (P → Bool) → Rule P → Bool
-partsPass test (opening hit) = true
-partsPass test (counting k) = true
-partsPass test (same a) = test a
-partsPass test (both a b) = test a && test b
-partsPass test (either a b) = test a && test b
-partsPass test (copied a) = test a
-partsPass test (until a b) = test a && test b
-partsPass test (then a b) = test a && test b
-partsPass test (timed k a b c) = test a && (test b && test c)
-partsPass test (filtered hit a) = test a
-
-abbrev countFits : {P : Type 0} → Rule P → Bool
-countFits (opening hit) = true
-countFits (counting k) = leb 1 k && leb k 60
-countFits (same a) = true
-countFits (both a b) = true
-countFits (either a b) = true
-countFits (copied a) = true
-countFits (until a b) = true
-countFits (then a b) = true
-countFits (timed k a b c) = leb 1 k && leb k 60
-countFits (filtered hit a) = true
-
-module _ {P : Type 0} (test : P → Bool) where
-  two-pass : (a b : P) → (test a && test b) ≡ true → (test a ≡ true) × (test b ≡ true)
-  two-pass a b e = both-true (test a) (test b) e
-
-  parts-pass : (rule : Rule P) → partsPass test rule ≡ true → AllParts (λ a. test a ≡ true) rule
-  parts-pass (opening hit) e = tt
-  parts-pass (counting k) e = tt
-  parts-pass (same a) e = e
-  parts-pass (both a b) e = two-pass a b e
-  parts-pass (either a b) e = two-pass a b e
-  parts-pass (copied a) e = e
-  parts-pass (until a b) e = two-pass a b e
-  parts-pass (then a b) e = two-pass a b e
-  parts-pass (timed k a b c) e =
-      let h = both-true (test a) (test b && test c) e in
-      let i = two-pass b c (h .1) in
-      (h .0, i .0, i .1)
-  parts-pass (filtered hit a) e = e
-
-count-fits : (k : ℕ) → (leb 1 k && leb k 60) ≡ true → (1 ≤ k) × (k ≤ 60)
-count-fits k e = let h = both-true (leb 1 k) (leb k 60) e in (leb-true 1 k (h .0), leb-true k 60 (h .1))
-
-counted : {P : Type 0} (rule : Rule P) → countFits rule ≡ true → CountFits rule
-counted (opening hit) e = tt
-counted (counting k) e = count-fits k e
-counted (same a) e = tt
-counted (both a b) e = tt
-counted (either a b) e = tt
-counted (copied a) e = tt
-counted (until a b) e = tt
-counted (then a b) e = tt
-counted (timed k a b c) e = count-fits k e
-counted (filtered hit a) e = tt
-
--- what follows of each part from two facts
-module _ {P : Type 0} (Q R S : P → Type 0) (each : (a : P) → Q a → R a → S a) where
-  all-both : (rule : Rule P) → AllParts Q rule → AllParts R rule → AllParts S rule
-  all-both (opening hit) q r = tt
-  all-both (counting k) q r = tt
-  all-both (same a) q r = each a q r
-  all-both (both a b) q r = (each a (q .0) (r .0), each b (q .1) (r .1))
-  all-both (either a b) q r = (each a (q .0) (r .0), each b (q .1) (r .1))
-  all-both (copied a) q r = each a q r
-  all-both (until a b) q r = (each a (q .0) (r .0), each b (q .1) (r .1))
-  all-both (then a b) q r = (each a (q .0) (r .0), each b (q .1) (r .1))
-  all-both (timed k a b c) q r = (each a (q .0) (r .0), each b (q .1) (r .1), each c (q .2) (r .2))
-  all-both (filtered hit a) q r = each a q r
-
--- parts given in two steps
-module _ {P X Y : Type 0} (g : X → Y) (f : P → X) where
-  on-parts-compose : (rule : Rule P) → onParts g (onParts f rule) ≡ onParts (λ a. g (f a)) rule
-  on-parts-compose (opening hit) = refl
-  on-parts-compose (counting k) = refl
-  on-parts-compose (same a) = refl
-  on-parts-compose (both a b) = refl
-  on-parts-compose (either a b) = refl
-  on-parts-compose (copied a) = refl
-  on-parts-compose (until a b) = refl
-  on-parts-compose (then a b) = refl
-  on-parts-compose (timed k a b c) = refl
-  on-parts-compose (filtered hit a) = refl
-
 -- The machine of a rule: its states are the values reached, in the order met.
-abbrev reached : Move ℕ → List ℕ
-reached trip = []
-reached (go c) = c ∷ []
+abbrev movedTo : Move ℕ → List ℕ
+movedTo trip = []
+movedTo (go c) = c ∷ []
 
 abbrev placeIn : List ℕ → ℕ → ℕ
 placeIn [] c = 0
@@ -140,7 +54,7 @@ abbrev rowsOver : (actions : ℕ) → Step ℕ → List ℕ → List ℕ
 rowsOver actions step codes = rowsFor actions step codes codes
 
 abbrev explored : (actions : ℕ) → Step ℕ → ℕ → List ℕ
-explored actions step c = rowsOver actions step (explore eqb 400 (λ c. gather actions (λ a. reached (step c a))) [] (c ∷ []))
+explored actions step c = rowsOver actions step (reach eqb (λ c. gather actions (λ a. movedTo (step c a))) c)
 
 -- A list of next states is closed with 64 states.
 abbrev closedTest : List ℕ → Bool
@@ -188,17 +102,26 @@ module _ (actions : ℕ) (propositions : ℕ → ℕ) where
     pub closed : Closed 64 (transition 255 actions next)
     pub agrees : Agree actions (partTrips (transition 255 actions next)) (tripsPolicy propositions p)
 
-  module _ (machine : Policy → List ℕ) (p : Policy) (typed : Typed p) (parts : AllParts (λ a. MachineRight (machine a) a) (ruleOf propositions p)) where
+  module _ (machine : Policy → List ℕ) where
     abbrev part : Policy → Part
     part a = transition 255 actions (machine a)
+
+    abbrev PartRight : Policy → Type 0
+    PartRight a = MachineRight (machine a) a
+
+    -- what follows of every part
+    all-right : (R : Policy → Type 0) → ((a : Policy) → PartRight a → R a) → (rule : Rule Policy) → AllParts PartRight rule → AllParts R rule
+    all-right R each rule parts = all-both PartRight PartRight R (λ a q r. each a q) rule parts parts
+
+  module _ (machine : Policy → List ℕ) (p : Policy) (typed : Typed p) (parts : AllParts (PartRight machine) (ruleOf propositions p)) where
 
     fit-rule : countFits (over machine p) ≡ true → FitRule (over machine p)
     fit-rule e =
         record {
           counted = counted (over machine p) e;
           closed =
-              all-apply (λ a. MachineRight (machine a) a) (λ f. (n : ℕ) × Closed n f) part (ruleOf propositions p)
-              (all-both (λ a. MachineRight (machine a) a) (λ a. MachineRight (machine a) a) (λ a. MachineRight (machine a) a → (n : ℕ) × Closed n (part a)) (λ a q r m. (64, m .closed)) (ruleOf propositions p) parts parts)
+              all-apply (PartRight machine) (λ f. (n : ℕ) × Closed n f) (part machine) (ruleOf propositions p)
+              (all-right machine (λ a. PartRight machine a → (n : ℕ) × Closed n (part machine a)) (λ a q r. (64, r .closed)) (ruleOf propositions p) parts)
               parts;
         }
 
@@ -207,9 +130,9 @@ module _ (actions : ℕ) (propositions : ℕ → ℕ) where
     over-trips e w s =
         code-trips (over machine p) (fit-rule e) w
         ∙ steps-trip (over machine p) (fit-sound (over machine p) (fit-rule e)) w
-        ∙ ap (λ (r : Rule Property). ruleTrips r w) (on-parts-compose partTrips part (ruleOf propositions p))
-        ∙ rule-congruent actions (λ a. partTrips (part a)) (tripsPolicy propositions) (ruleOf propositions p)
-        (all-both (λ a. MachineRight (machine a) a) (λ a. MachineRight (machine a) a) (λ a. Agree actions (partTrips (part a)) (tripsPolicy propositions a)) (λ a q r. q .agrees) (ruleOf propositions p) parts parts)
+        ∙ ap (λ (r : Rule Property). ruleTrips r w) (on-parts-compose partTrips (part machine) (ruleOf propositions p))
+        ∙ rule-congruent actions (λ a. partTrips (part machine a)) (tripsPolicy propositions) (ruleOf propositions p)
+        (all-right machine (λ a. Agree actions (partTrips (part machine a)) (tripsPolicy propositions a)) (λ a q. q .agrees) (ruleOf propositions p) parts)
         w s
         ∙ sym (rule-trips propositions p typed w)
 
