@@ -114,7 +114,6 @@ module _ (actions : ℕ) (propositions : ℕ → ℕ) where
     all-right R each rule parts = all-both PartRight PartRight R (λ a q r. each a q) rule parts parts
 
   module _ (machine : Policy → List ℕ) (p : Policy) (typed : Typed p) (parts : AllParts (PartRight machine) (ruleOf propositions p)) where
-
     fit-rule : countFits (over machine p) ≡ true → FitRule (over machine p)
     fit-rule e =
         record {
