@@ -1,3 +1,5 @@
 pub mod Places
 pub mod Possible
 pub mod Calls
+pub mod Replies
+pub mod Survey

@@ -1,0 +1,48 @@
+// The places of a board, and their bytes in the area.
+use crate::Board;
+use crate::Case;
+use crate::Place;
+ghost use mathlib.Core.Path.{_≡_};
+ghost use Prim.Native.Nat.{_≤_, _<_};
+ghost use lib.ListN.{length, replicate};
+ghost use Rattle.board.specs.Places.{caseAt, placeBytes, withCase, withBytes, emptyBoard};
+ghost use Rattle.board.specs.Survey.{Within};
+
+// Eight empty places.
+pub fn empty_board() -> Board
+    ensures { λ r. ⌜ r ≡ emptyBoard ⌝ }
+{
+    Board {
+        places: [Place { case: Case::Empty }; 8],
+    }
+}
+
+// The case of a place.
+pub fn case_at(board: Board, place: usize) -> Case
+    requires { ⌜ place < 8 ⌝ }
+    ensures { λ r. ⌜ r ≡ caseAt board place ⌝ }
+{
+    let places = board.places;
+    let p = places[place];
+    p.case
+}
+
+// The board with another case at a place.
+pub fn with_case(board: Board, place: usize, case: Case) -> Board
+    requires { ⌜ place < 8 ⌝ }
+    ensures { λ r. ⌜ r ≡ withCase board place case ⌝ }
+{
+    let mut places = board.places;
+    places[place] = Place { case };
+    Board { places }
+}
+
+// The bytes of a place.
+pub fn place_bytes(area: &[u8], place: usize) -> &[u8]
+    requires { ⌜ Within (now area) place ⌝ }
+    ensures { λ r. ⌜ now r ≡ placeBytes (now (area .entry)) place ⌝ }
+{
+    let from = place * 1032;
+    let to = from + 1032;
+    &area[from..to]
+}
