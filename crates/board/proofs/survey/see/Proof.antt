@@ -1,3 +1,8 @@
+-- `board::survey::see` meets its contract, case by case.
+-- Assumes nothing.
+use mathlib.Core.Path.{sym, subst}
+use Rattle.board.specs.Survey.{Sees}
+use Rattle.board.proofs.Seeing.{sees-enforced, sees-watched, sees-fulfilled}
 use borrow.Author.Needs.{needs}
 use Rattle.board.proofs.survey.see.Statement.{statement}
 use Rattle.board.proofs.survey.see.Tie as tie
@@ -5,49 +10,38 @@ use Rattle.board.proofs.survey.see.Reads as reads
 use Rattle.board.proofs.survey.see.Lts as lts
 use Rattle.board.proofs.survey.rule_at.Reads as rule-at-reads
 
--- src/survey.rt:72:24
 enum-told : tie.Need-enum-told
 enum-told c = search needs
 
--- src/survey.rt:73:24
 enum-known-case : tie.Need-enum-known-case
 enum-known-case c = search needs
 
--- src/survey.rt:73:32
 rule-at-requires : tie.Need-rule-at-requires
 rule-at-requires c κs = search needs
 
--- src/survey.rt:74:23
 enum-known-case-2 : tie.Need-enum-known-case-2
 enum-known-case-2 c = search needs
 
--- src/survey.rt:74:31
 rule-at-requires-2 : tie.Need-rule-at-requires-2
 rule-at-requires-2 c κs = search needs
 
--- src/survey.rt:75:28
 enum-told-2 : tie.Need-enum-told-2
 enum-told-2 c = search needs
 
--- src/survey.rt:75:28
 rule-at-requires-3 : tie.Need-rule-at-requires-3
 rule-at-requires-3 c κs = search needs
 
--- src/survey.rt:67:1
 returns : tie.Need-returns
 returns c = search needs
 
--- src/survey.rt:67:1
 returns-2 : tie.Need-returns-2
-returns-2 c = ?
+returns-2 c = rw (c .before .before .case .given .1) (sees-enforced _ _ (c .rule-at .result) (c .rule-at .ensures))
 
--- src/survey.rt:67:1
 returns-3 : tie.Need-returns-3
-returns-3 c = ?
+returns-3 c = rw (c .before .before .case2 .given .1) (sees-watched _ _ (c .rule-at2 .result) (c .rule-at2 .ensures))
 
--- src/survey.rt:67:1
 returns-4 : tie.Need-returns-4
-returns-4 c = ?
+returns-4 c = rw (c .before .enum-told2 .given .1) (sees-fulfilled _ (c .rule-at3 .result) (c .rule-at3 .ensures))
 
 pub see-spec : {M : Type 1} → statement M
 see-spec =
