@@ -1,12 +1,10 @@
 // The board: up to eight tables that permit or deny each action.
 
-
+mod calls;
 mod places;
 mod survey;
-
-
-
-
+pub use calls::new_board;
+pub use calls::take_off;
 
 // A place is empty, or holds an enforced rule and its row, or a watched rule and its row, or a watched rule fulfilled.
 pub enum Case {

@@ -46,3 +46,26 @@ pub fn place_bytes(area: &[u8], place: usize) -> &[u8]
     let to = from + 1032;
     &area[from..to]
 }
+
+// Writes bytes to the front of a place, and zeros behind them.
+pub fn write_place(area: &mut [u8], place: usize, bytes: &[u8])
+    requires { ⌜ Within (now area) place ⌝ }
+    requires { ⌜ length (now bytes) ≤ 1032 ⌝ }
+    ensures { λ _. ⌜ now (area .exit) ≡ withBytes (now (area .entry)) place (now (bytes .entry)) ⌝ }
+{
+    let from = place * 1032;
+    let to = from + 1032;
+    let end = from + bytes.len();
+    base::copy(bytes, &mut area[from..end]);
+    base::clear(&mut area[end..to]);
+}
+
+// Zeroes a place.
+pub fn clear_place(area: &mut [u8], place: usize)
+    requires { ⌜ Within (now area) place ⌝ }
+    ensures { λ _. ⌜ now (area .exit) ≡ withBytes (now (area .entry)) place (replicate 1032 0) ⌝ }
+{
+    let from = place * 1032;
+    let to = from + 1032;
+    base::clear(&mut area[from..to]);
+}

@@ -1,0 +1,55 @@
+// A new board, putting a table on it, and taking one off.
+use crate::Board;
+use crate::Case;
+use crate::Made;
+use crate::NewBoard;
+use crate::Put;
+use crate::PutOn;
+use crate::Take;
+use crate::TakenOff;
+use crate::places::case_at;
+use crate::places::clear_place;
+use crate::places::empty_board;
+use crate::places::with_case;
+use crate::places::write_place;
+use crate::survey::Found;
+use crate::survey::survey;
+use table::Loaded;
+use trace::Mode;
+ghost use mathlib.Core.Path.{_≡_};
+ghost use Rattle.table.specs.Answer.{modeNumber};
+ghost use Rattle.board.specs.Calls.{Makes, PutsOn, TakesOff, firstCase};
+ghost use Rattle.board.specs.Replies.{madeReply, putReply, takeReply};
+
+// Eight empty places and a zeroed area.
+pub fn new_board(area: &mut [u8]) -> NewBoard
+    ensures { λ r. ⌜ Makes (now (area .entry)) (madeReply (r .answer)) (r .board) (now (area .exit)) ⌝ }
+{
+    let board = empty_board();
+    if area.len() < 8256 {
+        return NewBoard { answer: Made::ShortArea, board };
+    }
+    base::clear(&mut area[..8256]);
+    NewBoard { answer: Made::Board, board }
+}
+
+// Empties a place.
+pub fn take_off(board: Board, area: &mut [u8], place: usize) -> TakenOff
+    ensures { λ r. ⌜ TakesOff board (now (area .entry)) place (takeReply (r .answer)) (r .board) (now (area .exit)) ⌝ }
+{
+    if area.len() < 8256 {
+        return TakenOff { answer: Take::ShortArea, board };
+    }
+    if 8 <= place {
+        return TakenOff { answer: Take::NoPlace, board };
+    }
+    if let Found::Impossible = survey(board, area) {
+        return TakenOff { answer: Take::Impossible, board };
+    }
+    if let Case::Empty = case_at(board, place) {
+        return TakenOff { answer: Take::Untaken, board };
+    }
+    clear_place(area, place);
+    let next = with_case(board, place, Case::Empty);
+    TakenOff { answer: Take::Off, board: next }
+}
