@@ -12,7 +12,8 @@ use Rattle.trace.proofs.Laws.{not-both}
 use Rattle.table.specs.Table.{actionsOf}
 use Rattle.board.specs.Places.{caseAt, taken, tableAt}
 use Rattle.board.specs.Possible.{CaseFits, Possible}
-use Rattle.board.specs.Survey.{Sees, Over, Surveys, joined}
+use Rattle.board.specs.Survey.{Sees, Over, Surveys, joined, isImpossible, admitted}
+use Rattle.board.specs.Calls.{SameActions}
 use Rattle.board.specs.declared.Board.{Board}
 use Rattle.board.specs.declared.survey.Seen.{Seen}
 use Rattle.board.specs.declared.survey.Seen.the-variants.{Untaken, Fits, Misfit}
@@ -72,3 +73,26 @@ module _ (board : Board) (area : List ℕ) where
   survey-all NoRule k = (record { fits = k .fits; one = λ i j h g t. not-both (sym t ∙ k .vacant i h) }, k .vacant)
   survey-all (Actions a) k =
       record { possible = record { fits = k .fits; one = λ i j h g t u. k .same i h t ∙ sym (k .same j g u) }; same = k .same; place = k .place; below = k .below; on = k .on }
+
+-- what each answer of a survey tells
+module _ (board : Board) (area : List ℕ) where
+  pub cannot-be : (f : Found) → Surveys board area f → isImpossible f ≡ true → Possible board area → ⊥
+  cannot-be Impossible s e = s
+  cannot-be NoRule s e = not-both (sym e)
+  cannot-be (Actions known) s e = not-both (sym e)
+
+  pub can-be : (f : Found) → Surveys board area f → isImpossible f ≡ false → Possible board area
+  can-be Impossible s e = not-both e
+  can-be NoRule s e = s .0
+  can-be (Actions known) s e = s .possible
+
+  pub same-actions : (f : Found) (actions : ℕ) → Surveys board area f → admitted f actions ≡ true → SameActions board area actions
+  same-actions Impossible actions s a = not-both (sym a)
+  same-actions NoRule actions s a = λ i h t. not-both (sym t ∙ s .1 i h)
+  same-actions (Actions known) actions s a = λ i h t. s .same i h t ∙ eqb-true known actions a
+
+  pub other-actions : (f : Found) (actions : ℕ) → Surveys board area f → isImpossible f ≡ false → admitted f actions ≡ false → SameActions board area actions → ⊥
+  other-actions Impossible actions s e a = not-both e
+  other-actions NoRule actions s e a = not-both a
+  other-actions (Actions known) actions s e a =
+      λ h. eqb-false known actions a (sym (s .same (s .place) (s .below) (s .on)) ∙ h (s .place) (s .below) (s .on))

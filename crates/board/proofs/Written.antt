@@ -68,6 +68,10 @@ zeros n = replicate n 0
 length-zeros : (n : ℕ) → length (zeros n) ≡ n
 length-zeros n = length-replicate n 0
 
+-- the front of a list, with zeros
+pub cleared-front : (n : ℕ) (l y : List ℕ) → n ≤ length l → y ≡ zeros (length (take n l)) → y ≡ zeros n
+cleared-front n l y fits cleared = cleared ∙ ap zeros (length-take-le n l fits)
+
 -- a part from a on, with zeros
 pub cleared-part : (a w : ℕ) (l y : List ℕ) → a + w ≤ length l → y ≡ zeros (length (midOf a (a + w - a) l))
     → putMid a (a + w - a) l y ≡ take a l ++ ((zeros w ++ zeros (w - length (zeros w))) ++ drop (a + w) l)

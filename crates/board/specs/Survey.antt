@@ -66,3 +66,14 @@ joined found.NoRule seen.Misfit = found.Impossible
 joined (found.Actions known) seen.Untaken = found.Actions known
 joined (found.Actions known) (seen.Fits actions) = cond (eqb actions known) (found.Actions known) found.Impossible
 joined (found.Actions known) seen.Misfit = found.Impossible
+
+abbrev pub isImpossible : Found → Bool
+isImpossible found.Impossible = true
+isImpossible found.NoRule = false
+isImpossible (found.Actions known) = false
+
+-- Whether a rule over so many actions can join those on the board.
+abbrev pub admitted : Found → ℕ → Bool
+admitted found.Impossible actions = false
+admitted found.NoRule actions = true
+admitted (found.Actions known) actions = eqb known actions

@@ -10,9 +10,11 @@ use crate::TakenOff;
 use crate::places::case_at;
 use crate::places::clear_place;
 use crate::places::empty_board;
+use crate::places::taken;
 use crate::places::with_case;
 use crate::places::write_place;
-use crate::survey::Found;
+use crate::survey::admits;
+use crate::survey::impossible;
 use crate::survey::survey;
 use table::Loaded;
 use trace::Mode;
@@ -43,13 +45,56 @@ pub fn take_off(board: Board, area: &mut [u8], place: usize) -> TakenOff
     if 8 <= place {
         return TakenOff { answer: Take::NoPlace, board };
     }
-    if let Found::Impossible = survey(board, area) {
+    if impossible(survey(board, area)) {
         return TakenOff { answer: Take::Impossible, board };
     }
-    if let Case::Empty = case_at(board, place) {
-        return TakenOff { answer: Take::Untaken, board };
+    if taken(case_at(board, place)) {
+        clear_place(area, place);
+        let next = with_case(board, place, Case::Empty);
+        TakenOff { answer: Take::Off, board: next }
+    } else {
+        TakenOff { answer: Take::Untaken, board }
     }
-    clear_place(area, place);
-    let next = with_case(board, place, Case::Empty);
-    TakenOff { answer: Take::Off, board: next }
+}
+
+// The case that a table starts in, by its type.
+fn first_case(mode: Mode) -> Case
+    ensures { λ r. ⌜ r ≡ firstCase (modeNumber mode) ⌝ }
+{
+    match mode {
+        Mode::Enforced => Case::Enforced(0),
+        Mode::Watched => Case::Watched(0),
+    }
+}
+
+// Puts a table on an empty place, at row 0.
+pub fn put_on(board: Board, area: &mut [u8], place: usize, table: &[u8]) -> PutOn
+    ensures { λ r. ⌜ PutsOn board (now (area .entry)) place (now (table .entry)) (putReply (r .answer)) (r .board) (now (area .exit)) ⌝ }
+{
+    if area.len() < 8256 {
+        return PutOn { answer: Put::ShortArea, board };
+    }
+    if 8 <= place {
+        return PutOn { answer: Put::NoPlace, board };
+    }
+    let found = survey(board, area);
+    if impossible(found) {
+        return PutOn { answer: Put::Impossible, board };
+    }
+    if taken(case_at(board, place)) {
+        return PutOn { answer: Put::Taken, board };
+    }
+    match table::load(table) {
+        Loaded::Malformed => PutOn { answer: Put::Malformed, board },
+        Loaded::NotCanonical => PutOn { answer: Put::NotCanonical, board },
+        Loaded::Table { mode, actions, rows: _ } => {
+            if admits(found, actions) {
+                write_place(area, place, table);
+                let next = with_case(board, place, first_case(mode));
+                PutOn { answer: Put::On, board: next }
+            } else {
+                PutOn { answer: Put::OtherActions, board }
+            }
+        }
+    }
 }

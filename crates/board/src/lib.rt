@@ -4,6 +4,7 @@ mod calls;
 mod places;
 mod survey;
 pub use calls::new_board;
+pub use calls::put_on;
 pub use calls::take_off;
 
 // A place is empty, or holds an enforced rule and its row, or a watched rule and its row, or a watched rule fulfilled.

@@ -5,7 +5,7 @@ use crate::Place;
 ghost use mathlib.Core.Path.{_≡_};
 ghost use Prim.Native.Nat.{_≤_, _<_};
 ghost use lib.ListN.{length, replicate};
-ghost use Rattle.board.specs.Places.{caseAt, placeBytes, withCase, withBytes, emptyBoard};
+ghost use Rattle.board.specs.Places.{caseAt, taken as takenCase, placeBytes, withCase, withBytes, emptyBoard};
 ghost use Rattle.board.specs.Survey.{Within};
 
 // Eight empty places.
@@ -25,6 +25,18 @@ pub fn case_at(board: Board, place: usize) -> Case
     let places = board.places;
     let p = places[place];
     p.case
+}
+
+// Whether a case is that of a taken place.
+pub fn taken(case: Case) -> bool
+    ensures { λ r. ⌜ r ≡ takenCase case ⌝ }
+{
+    match case {
+        Case::Empty => false,
+        Case::Enforced(_) => true,
+        Case::Watched(_) => true,
+        Case::Fulfilled => true,
+    }
 }
 
 // The board with another case at a place.

@@ -9,7 +9,7 @@ ghost use mathlib.Core.Path.{_≡_};
 ghost use Rattle.table.specs.Answer.{Checked, modeNumber};
 ghost use Rattle.board.specs.Places.{tableAt};
 ghost use Rattle.board.specs.Calls.{Whole};
-ghost use Rattle.board.specs.Survey.{Within, Sees, SeesRule, Surveys, joined};
+ghost use Rattle.board.specs.Survey.{Within, Sees, SeesRule, Surveys, joined, isImpossible, admitted};
 
 // A place: not taken, or its table fits its case and has so many actions, or it cannot be.
 pub enum Seen {
@@ -113,4 +113,25 @@ pub fn survey(board: Board, area: &[u8]) -> Found
         i += 1;
     }
     found
+}
+
+pub fn impossible(found: Found) -> bool
+    ensures { λ r. ⌜ r ≡ isImpossible found ⌝ }
+{
+    match found {
+        Found::Impossible => true,
+        Found::NoRule => false,
+        Found::Actions(_) => false,
+    }
+}
+
+// Whether a rule over so many actions can join those on the board.
+pub fn admits(found: Found, actions: usize) -> bool
+    ensures { λ r. ⌜ r ≡ admitted found actions ⌝ }
+{
+    match found {
+        Found::Impossible => false,
+        Found::NoRule => true,
+        Found::Actions(known) => known == actions,
+    }
 }
