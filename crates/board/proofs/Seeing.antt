@@ -4,11 +4,13 @@ use mathlib.Core.Path.{_≡_, refl, sym, _∙_}
 use mathlib.Core.Bool.{true, false}
 use mathlib.Core.List.{List}
 use Prim.Native.Nat.{ℕ, _≤_, _<_}
+use native.Mathlib.Nat.{mul-le-mul}
 use native.Mathlib.Omega.{arith}
+use lib.ListN.{length}
 use Rattle.trace.specs.declared.Mode.{Mode}
 use Rattle.trace.proofs.Laws.{not-both}
 use Rattle.table.specs.Table.{actionsOf}
-use Rattle.table.specs.Answer.{modeNumber, FormedAs}
+use Rattle.table.specs.Answer.{modeNumber, FormedAs, accepted, Loads, accepts}
 use Rattle.board.specs.Places.{taken}
 use Rattle.board.specs.Possible.{Holds, CaseFits}
 use Rattle.board.specs.Survey.{HoldsAt, SeesRule, Sees, FitsWith}
@@ -50,3 +52,9 @@ fits-untaken table Empty e = tt
 fits-untaken table (Enforced row) e = not-both e
 fits-untaken table (Watched row) e = not-both e
 fits-untaken table Fulfilled e = not-both e
+
+-- an accepted table has room in a place
+pub accepted-fits : (table : List ℕ) (type actions rows : ℕ) → Loads table (accepted type actions rows) → length table ≤ 1032
+accepted-fits table type actions rows (accepts h) =
+    let area = mul-le-mul {n₂ = 64} {m₂ = 16} (h .formed .header .rows-high) (h .formed .header .actions-high) in
+    omega (arith, h .formed .whole)

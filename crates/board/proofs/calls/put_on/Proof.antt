@@ -1,3 +1,19 @@
+-- `board::calls::put_on` meets its contract, one way out of `PutsOn` for each answer.
+-- Assumes nothing.
+use mathlib.Core.Path.{_≡_, sym, _∙_, ap, subst}
+use mathlib.Core.Bool.{Bool, true, false}
+use mathlib.Core.List.{List}
+use Prim.Native.Nat.{ℕ}
+use native.Mathlib.Omega.{arith}
+use Rattle.table.specs.declared.Loaded.{Loaded}
+use Rattle.table.specs.Answer.{modeNumber, answerOf, accepted, Loads}
+use Rattle.board.specs.Places.{caseAt, taken, withCase}
+use Rattle.board.specs.Possible.{Possible}
+use Rattle.board.specs.Calls.{PutsOn, put-14, put-13, put-25, put-22, put-refused, put-23, put, done, firstCase}
+use Rattle.board.specs.declared.Board.{Board}
+use Rattle.board.specs.declared.Case.{Case}
+use Rattle.board.proofs.Seeing.{accepted-fits}
+use Rattle.board.proofs.Surveying.{cannot-be, can-be, same-actions, other-actions}
 use borrow.Author.Needs.{needs}
 use Rattle.board.proofs.calls.put_on.Statement.{statement}
 use Rattle.board.proofs.calls.put_on.Tie as tie
@@ -13,109 +29,151 @@ use Rattle.board.proofs.survey.impossible.Reads as impossible-reads
 use Rattle.board.proofs.survey.survey.Reads as survey-reads
 use Rattle.table.proofs.load.Reads as load-reads
 
--- src/calls.rt:75:9
+-- the board and the area, where both are looked at
+module _ (c : tie.After-impossible) where
+  abbrev start : tie.Start
+  start = c .before .before .before .before .before .before .before
+
+  abbrev board : Board
+  board = start .args .board
+
+  abbrev area : List ℕ
+  area = start .args .area .now
+
+-- a board that can be
+module _ (c : tie.After-taken) where
+  abbrev looked : tie.After-impossible
+  looked = c .before .before .before
+
+  possible : Possible (board looked) (area looked)
+  possible = can-be (board looked) (area looked) (looked .before .survey .result) (looked .before .survey .ensures) (sym (looked .impossible .ensures) ∙ c .before .before .if3 .left)
+
+  place-taken : (b : Bool) → c .taken .result ≡ b → taken (caseAt (board looked) (start looked .args .place)) ≡ b
+  place-taken b e = ap taken (sym (c .before .case-at .ensures)) ∙ sym (c .taken .ensures) ∙ e
+
+-- an empty place, and what the loader answers
+module _ (c : tie.After-load) where
+  abbrev empty : tie.After-taken
+  empty = c .before .before
+
+  abbrev table : List ℕ
+  table = start (looked empty) .args .table .now
+
+  answers : (l : Loaded) → c .load .result ≡ l → Loads table (answerOf l)
+  answers l e = subst (λ (x : Loaded). Loads table (answerOf x)) e (c .load .ensures)
+
+  free : taken (caseAt (board (looked empty)) (start (looked empty) .args .place)) ≡ false
+  free = place-taken empty false (c .before .if4 .left)
+
+-- a table that the loader accepts
+module _ (c : tie.After-mode) where
+  abbrev loaded : tie.After-load
+  loaded = c .before .before
+
+  loads : Loads (table loaded) (accepted (modeNumber (c .mode .given .0 .0)) (c .mode .given .0 .1 .0) (c .mode .given .0 .1 .1 .0))
+  loads = answers loaded _ (c .mode .given .1)
+
 returns : tie.Need-returns
-returns c = ?
+returns c = put-14 (λ w. omega arith)
 
--- src/calls.rt:78:9
 returns-2 : tie.Need-returns-2
-returns-2 c = ?
+returns-2 c = put-13 (omega arith) (c .if2 .taken)
 
--- src/calls.rt:80:9
 survey-requires : tie.Need-survey-requires
 survey-requires c κs = search needs
 
--- src/calls.rt:81:8
 impossible-requires : tie.Need-impossible-requires
 impossible-requires c κs = search needs
 
--- src/calls.rt:82:9
 same-length : tie.Need-same-length
 same-length c = search needs
 
--- src/calls.rt:82:9
 returns-3 : tie.Need-returns-3
-returns-3 c = ?
+returns-3 c =
+    let w = c .before in
+    put-25 (omega arith) (omega arith) (cannot-be (board w) (area w) (w .before .survey .result) (w .before .survey .ensures) (sym (w .impossible .ensures) ∙ c .if3 .taken))
 
--- src/calls.rt:84:14
 case-at-requires : tie.Need-case-at-requires
 case-at-requires c κs = search needs
 
--- src/calls.rt:84:8
 taken-requires : tie.Need-taken-requires
 taken-requires c κs = search needs
 
--- src/calls.rt:85:9
 same-length-2 : tie.Need-same-length-2
 same-length-2 c = search needs
 
--- src/calls.rt:85:9
 returns-4 : tie.Need-returns-4
-returns-4 c = ?
+returns-4 c = put-22 (omega arith) (omega arith) (possible (c .before)) (place-taken (c .before) true (c .if4 .taken))
 
--- src/calls.rt:87:11
 load-requires : tie.Need-load-requires
 load-requires c κs = search needs
 
--- src/calls.rt:88:46
 enum-told : tie.Need-enum-told
 enum-told c = search needs
 
--- src/calls.rt:89:49
 enum-told-2 : tie.Need-enum-told-2
 enum-told-2 c = search needs
 
--- src/calls.rt:90:25
 enum-known-mode : tie.Need-enum-known-mode
 enum-known-mode c = search needs
 
--- src/calls.rt:91:16
 admits-requires : tie.Need-admits-requires
 admits-requires c κs = search needs
 
--- src/calls.rt:92:17
 write-place-requires : tie.Need-write-place-requires
-write-place-requires c κs = ?
+write-place-requires c κs = (search needs, accepted-fits _ _ _ _ (loads (c .before .before .before .before)))
 
--- src/calls.rt:93:52
 first-case-requires : tie.Need-first-case-requires
 first-case-requires c κs = search needs
 
--- src/calls.rt:93:21
 with-case-requires : tie.Need-with-case-requires
 with-case-requires c κs = search needs
 
--- src/calls.rt:71:1
 same-length-3 : tie.Need-same-length-3
 same-length-3 c = search needs
 
--- src/calls.rt:71:1
 returns-5 : tie.Need-returns-5
-returns-5 c = ?
+returns-5 c =
+    let l = c .before .before in
+    put-refused (omega arith) (omega arith) (possible (empty l)) (free l) 10 (answers l _ (c .enum-told .given .1))
 
--- src/calls.rt:71:1
 same-length-4 : tie.Need-same-length-4
 same-length-4 c = search needs
 
--- src/calls.rt:71:1
 returns-6 : tie.Need-returns-6
-returns-6 c = ?
+returns-6 c =
+    let l = c .before .before in
+    put-refused (omega arith) (omega arith) (possible (empty l)) (free l) 11 (answers l _ (c .enum-told2 .given .1))
 
--- src/calls.rt:71:1
 same-length-5 : tie.Need-same-length-5
 same-length-5 c = search needs
 
--- src/calls.rt:71:1
 returns-7 : tie.Need-returns-7
-returns-7 c = ?
+returns-7 c =
+    let z = c .before .before .before .before in
+    let t = z .before .before in
+    let a = t .before in
+    let m = a .before .before in
+    let l = loaded m in
+    let w = looked (empty l) in
+    let place = start w .args .place in
+    let next = c .with-case .ensures ∙ ap (λ (x : Case). withCase (board w) place x) (c .before .first-case .ensures) in
+    subst (λ (b : Board). PutsOn (board w) (area w) place (table l) done b (z .write-place .last .0)) (sym next)
+    (subst (λ (x : List ℕ). PutsOn (board w) (area w) place (table l) done (withCase (board w) place (firstCase (modeNumber (m .mode .given .0 .0)))) x) (sym (z .write-place .ensures))
+    (put (omega arith) (omega arith) (possible (empty l)) (free l) _ _ _ (loads m)
+    (same-actions (board w) (area w) (w .before .survey .result) (m .mode .given .0 .1 .0) (w .before .survey .ensures) (sym (a .admits .ensures) ∙ t .if5 .taken))))
 
--- src/calls.rt:71:1
 same-length-6 : tie.Need-same-length-6
 same-length-6 c = search needs
 
--- src/calls.rt:71:1
 returns-8 : tie.Need-returns-8
-returns-8 c = ?
+returns-8 c =
+    let a = c .before in
+    let m = a .before .before in
+    let l = loaded m in
+    let w = looked (empty l) in
+    put-23 (omega arith) (omega arith) (possible (empty l)) (free l) _ _ _ (loads m)
+    (other-actions (board w) (area w) (w .before .survey .result) (m .mode .given .0 .1 .0) (w .before .survey .ensures) (sym (w .impossible .ensures) ∙ empty l .before .before .if3 .left) (sym (a .admits .ensures) ∙ c .if5 .left))
 
 pub put-on-spec : {M : Type 1} → statement M
 put-on-spec =
