@@ -3,3 +3,4 @@ pub mod Possible
 pub mod Calls
 pub mod Replies
 pub mod Survey
+pub mod Steps

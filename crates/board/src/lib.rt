@@ -1,8 +1,10 @@
 // The board: up to eight tables that permit or deny each action.
 
+mod actions;
 mod calls;
 mod places;
 mod survey;
+pub use actions::action;
 pub use calls::new_board;
 pub use calls::put_on;
 pub use calls::take_off;
