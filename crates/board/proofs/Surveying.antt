@@ -18,7 +18,7 @@ use Rattle.board.specs.declared.Board.{Board}
 use Rattle.board.specs.declared.survey.Seen.{Seen}
 use Rattle.board.specs.declared.survey.Seen.the-variants.{Untaken, Fits, Misfit}
 use Rattle.board.specs.declared.survey.Found.{Found}
-use Rattle.board.specs.declared.survey.Found.the-variants.{Impossible, NoRule, Actions}
+use Rattle.board.specs.declared.survey.Found.the-variants.{Impossible, Vacant, Actions}
 use Rattle.board.proofs.Seeing.{fits-untaken}
 
 abbrev pub FitsAt : Board → List ℕ → ℕ → Type 0
@@ -40,11 +40,11 @@ pub record OverBelow (board : Board) (area : List ℕ) (n actions : ℕ) : Type 
 
 abbrev pub SurveysBelow : Board → List ℕ → ℕ → Found → Type 0
 SurveysBelow board area n Impossible = Possible board area → ⊥
-SurveysBelow board area n NoRule = VacantBelow board area n
+SurveysBelow board area n Vacant = VacantBelow board area n
 SurveysBelow board area n (Actions actions) = OverBelow board area n actions
 
 module _ (board : Board) (area : List ℕ) where
-  pub survey-none : SurveysBelow board area 0 NoRule
+  pub survey-none : SurveysBelow board area 0 Vacant
   survey-none = record { fits = λ i h. absurd (let z = h in omega arith); vacant = λ i h. absurd (let z = h in omega arith) }
 
   module _ (n : ℕ) (below : n < 8) where
@@ -58,11 +58,11 @@ module _ (board : Board) (area : List ℕ) where
 
     pub survey-more : (f : Found) (s : Seen) → SurveysBelow board area n f → Sees (tableAt area n) (caseAt board n) s → SurveysBelow board area (n + 1) (joined f s)
     survey-more Impossible s k r = k
-    survey-more NoRule Untaken k r =
+    survey-more Vacant Untaken k r =
         record { fits = below-more _ n (k .fits) (fits-untaken (tableAt area n) (caseAt board n) r); vacant = below-more _ n (k .vacant) r }
-    survey-more NoRule (Fits a) k r =
+    survey-more Vacant (Fits a) k r =
         record { fits = below-more _ n (k .fits) (r .fits); same = below-more (SameAt board area a) n (λ i h t. not-both (sym t ∙ k .vacant i h)) (λ t. r .acting); place = n; below = omega arith; on = r .on }
-    survey-more NoRule Misfit k r = λ p. r (p .fits n below)
+    survey-more Vacant Misfit k r = λ p. r (p .fits n below)
     survey-more (Actions known) Untaken k r =
         record { fits = below-more _ n (k .fits) (fits-untaken (tableAt area n) (caseAt board n) r); same = below-more (SameAt board area known) n (k .same) (λ t. not-both (sym t ∙ r)); place = k .place; below = omega (arith, k .below); on = k .on }
     survey-more (Actions known) (Fits a) k r = same-count known a (eqb a known) refl k r
@@ -70,7 +70,7 @@ module _ (board : Board) (area : List ℕ) where
 
   pub survey-all : (f : Found) → SurveysBelow board area 8 f → Surveys board area f
   survey-all Impossible k = k
-  survey-all NoRule k = (record { fits = k .fits; one = λ i j h g t. not-both (sym t ∙ k .vacant i h) }, k .vacant)
+  survey-all Vacant k = (record { fits = k .fits; one = λ i j h g t. not-both (sym t ∙ k .vacant i h) }, k .vacant)
   survey-all (Actions a) k =
       record { possible = record { fits = k .fits; one = λ i j h g t u. k .same i h t ∙ sym (k .same j g u) }; same = k .same; place = k .place; below = k .below; on = k .on }
 
@@ -78,21 +78,21 @@ module _ (board : Board) (area : List ℕ) where
 module _ (board : Board) (area : List ℕ) where
   pub cannot-be : (f : Found) → Surveys board area f → isImpossible f ≡ true → Possible board area → ⊥
   cannot-be Impossible s e = s
-  cannot-be NoRule s e = not-both (sym e)
+  cannot-be Vacant s e = not-both (sym e)
   cannot-be (Actions known) s e = not-both (sym e)
 
   pub can-be : (f : Found) → Surveys board area f → isImpossible f ≡ false → Possible board area
   can-be Impossible s e = not-both e
-  can-be NoRule s e = s .0
+  can-be Vacant s e = s .0
   can-be (Actions known) s e = s .possible
 
   pub same-actions : (f : Found) (actions : ℕ) → Surveys board area f → admitted f actions ≡ true → SameActions board area actions
   same-actions Impossible actions s a = not-both (sym a)
-  same-actions NoRule actions s a = λ i h t. not-both (sym t ∙ s .1 i h)
+  same-actions Vacant actions s a = λ i h t. not-both (sym t ∙ s .1 i h)
   same-actions (Actions known) actions s a = λ i h t. s .same i h t ∙ eqb-true known actions a
 
   pub other-actions : (f : Found) (actions : ℕ) → Surveys board area f → isImpossible f ≡ false → admitted f actions ≡ false → SameActions board area actions → ⊥
   other-actions Impossible actions s e a = not-both e
-  other-actions NoRule actions s e a = not-both a
+  other-actions Vacant actions s e a = not-both a
   other-actions (Actions known) actions s e a =
       λ h. eqb-false known actions a (sym (s .same (s .place) (s .below) (s .on)) ∙ h (s .place) (s .below) (s .on))

@@ -30,12 +30,12 @@ takeReply take.Off = done
 takeReply take.ShortArea = input 14 0
 takeReply take.NoPlace = input 13 0
 takeReply take.Impossible = state 25
-takeReply take.Untaken = state 21
+takeReply take.EmptyPlace = state 21
 
 abbrev pub actReply : Act → Reply
 actReply (act.Permitted fulfilled) = permitted fulfilled
 actReply (act.Denied place) = denied place
 actReply act.ShortArea = input 14 0
 actReply act.Impossible = state 25
-actReply act.NoRule = state 24
+actReply act.EmptyBoard = state 24
 actReply act.NoAction = input 12 0

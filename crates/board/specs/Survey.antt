@@ -54,26 +54,26 @@ pub record Over (board : Board) (area : List ℕ) (actions : ℕ) : Type 0 where
 -- All places: the board cannot be, or no rule is on, or so many actions.
 abbrev pub Surveys : Board → List ℕ → Found → Type 0
 Surveys board area found.Impossible = Possible board area → ⊥
-Surveys board area found.NoRule = Possible board area × Vacant board
+Surveys board area found.Vacant = Possible board area × Vacant board
 Surveys board area (found.Actions actions) = Over board area actions
 
 -- What is known of the places below some number, with one place more.
 abbrev pub joined : Found → Seen → Found
 joined found.Impossible s = found.Impossible
-joined found.NoRule seen.Untaken = found.NoRule
-joined found.NoRule (seen.Fits actions) = found.Actions actions
-joined found.NoRule seen.Misfit = found.Impossible
+joined found.Vacant seen.Untaken = found.Vacant
+joined found.Vacant (seen.Fits actions) = found.Actions actions
+joined found.Vacant seen.Misfit = found.Impossible
 joined (found.Actions known) seen.Untaken = found.Actions known
 joined (found.Actions known) (seen.Fits actions) = cond (eqb actions known) (found.Actions known) found.Impossible
 joined (found.Actions known) seen.Misfit = found.Impossible
 
 abbrev pub isImpossible : Found → Bool
 isImpossible found.Impossible = true
-isImpossible found.NoRule = false
+isImpossible found.Vacant = false
 isImpossible (found.Actions known) = false
 
 -- Whether a rule over so many actions can join those on the board.
 abbrev pub admitted : Found → ℕ → Bool
 admitted found.Impossible actions = false
-admitted found.NoRule actions = true
+admitted found.Vacant actions = true
 admitted (found.Actions known) actions = eqb known actions

@@ -58,19 +58,21 @@ fn denies(case: Case, area: &[u8], place: usize, actions: usize, action: usize) 
     }
 }
 
-// The lowest place that denies an action.
+// The lowest place that denies an action: all are looked at, from the highest down.
 fn lowest_denier(board: Board, area: &[u8], actions: usize, action: usize) -> Denier
     requires { ⌜ Playable board (now area) actions action ⌝ }
     ensures { λ r. ⌜ Denies board (now (area .entry)) action r ⌝ }
 {
-    let mut i = 0;
-    while i < 8 {
-        if denies(case_at(board, i), area, i, actions, action) {
-            return Denier::At(i);
+    let mut found = Denier::Nobody;
+    let mut left = 8;
+    while 0 < left {
+        let place = left - 1;
+        if denies(case_at(board, place), area, place, actions, action) {
+            found = Denier::At(place);
         }
-        i += 1;
+        left -= 1;
     }
-    Denier::Nobody
+    found
 }
 
 // A rule moved by a permitted action. A watched rule that trips is fulfilled, and stays so.
@@ -131,18 +133,17 @@ pub fn action(board: Board, area: &[u8], action: usize) -> Acted
     }
     match survey(board, area) {
         Found::Impossible => Acted { answer: Act::Impossible, board },
-        Found::NoRule => Acted { answer: Act::NoRule, board },
+        Found::Vacant => Acted { answer: Act::EmptyBoard, board },
         Found::Actions(actions) => {
             if actions <= action {
                 return Acted { answer: Act::NoAction, board };
             }
-            match lowest_denier(board, area, actions, action) {
+            let denier = lowest_denier(board, area, actions, action);
+            let moved = move_all(board, area, actions, action);
+            let next = moved.board;
+            match denier {
                 Denier::At(place) => Acted { answer: Act::Denied(place), board },
-                Denier::Nobody => {
-                    let moved = move_all(board, area, actions, action);
-                    let next = moved.board;
-                    Acted { answer: Act::Permitted(moved.fulfilled), board: next }
-                }
+                Denier::Nobody => Acted { answer: Act::Permitted(moved.fulfilled), board: next },
             }
         }
     }

@@ -53,7 +53,7 @@ pub fn take_off(board: Board, area: &mut [u8], place: usize) -> TakenOff
         let next = with_case(board, place, Case::Empty);
         TakenOff { answer: Take::Off, board: next }
     } else {
-        TakenOff { answer: Take::Untaken, board }
+        TakenOff { answer: Take::EmptyPlace, board }
     }
 }
 
@@ -78,10 +78,12 @@ pub fn put_on(board: Board, area: &mut [u8], place: usize, table: &[u8]) -> PutO
         return PutOn { answer: Put::NoPlace, board };
     }
     let found = survey(board, area);
-    if impossible(found) {
+    let cannot_be = impossible(found);
+    let on = taken(case_at(board, place));
+    if cannot_be {
         return PutOn { answer: Put::Impossible, board };
     }
-    if taken(case_at(board, place)) {
+    if on {
         return PutOn { answer: Put::Taken, board };
     }
     match table::load(table) {

@@ -47,7 +47,7 @@ pub enum Take {
     ShortArea,
     NoPlace,
     Impossible,
-    Untaken,
+    EmptyPlace,
 }
 
 pub enum Act {
@@ -55,7 +55,7 @@ pub enum Act {
     Denied(usize),
     ShortArea,
     Impossible,
-    NoRule,
+    EmptyBoard,
     NoAction,
 }
 

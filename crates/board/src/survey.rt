@@ -21,7 +21,7 @@ pub enum Seen {
 // A board: it cannot be, or no rule is on, or its rules are over so many actions.
 pub enum Found {
     Impossible,
-    NoRule,
+    Vacant,
     Actions(usize),
 }
 
@@ -81,8 +81,8 @@ fn join(found: Found, seen: Seen) -> Found
 {
     match found {
         Found::Impossible => Found::Impossible,
-        Found::NoRule => match seen {
-            Seen::Untaken => Found::NoRule,
+        Found::Vacant => match seen {
+            Seen::Untaken => Found::Vacant,
             Seen::Fits(actions) => Found::Actions(actions),
             Seen::Misfit => Found::Impossible,
         },
@@ -105,7 +105,7 @@ pub fn survey(board: Board, area: &[u8]) -> Found
     requires { ⌜ Whole (now area) ⌝ }
     ensures { λ r. ⌜ Surveys board (now (area .entry)) r ⌝ }
 {
-    let mut found = Found::NoRule;
+    let mut found = Found::Vacant;
     let mut i = 0;
     while i < 8 {
         let case = case_at(board, i);
@@ -120,7 +120,7 @@ pub fn impossible(found: Found) -> bool
 {
     match found {
         Found::Impossible => true,
-        Found::NoRule => false,
+        Found::Vacant => false,
         Found::Actions(_) => false,
     }
 }
@@ -131,7 +131,7 @@ pub fn admits(found: Found, actions: usize) -> bool
 {
     match found {
         Found::Impossible => false,
-        Found::NoRule => true,
+        Found::Vacant => true,
         Found::Actions(known) => known == actions,
     }
 }

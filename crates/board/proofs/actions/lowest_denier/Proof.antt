@@ -1,15 +1,20 @@
--- `board::actions::lowest_denier` meets its contract. The loop's invariant: no place below i denies.
+-- `board::actions::lowest_denier` meets its contract. The loop's invariant: what is known of the places from `left` on.
 -- Assumes nothing.
 use mathlib.Core.Path.{_≡_, sym, _∙_, ap, subst}
 use mathlib.Core.Bool.{Bool, true, false}
+use mathlib.Core.List.{List}
+use mathlib.Core.Logic.{⊎-elim}
 use Prim.Native.Nat.{ℕ, _≤_, _-_}
 use native.Mathlib.Omega.{arith}
-use borrow.Author.Count.{below-more}
 use borrow.Author.Needs.{needs}
 use Rattle.board.specs.Places.{caseAt, tableAt}
-use Rattle.board.specs.Calls.{denies, NoneDenies}
+use Rattle.board.specs.Calls.{denies}
 use Rattle.board.specs.Steps.{Ready}
+use Rattle.board.specs.declared.Board.{Board}
 use Rattle.board.specs.declared.Case.{Case}
+use Rattle.board.specs.declared.actions.Denier.{Denier}
+use Rattle.board.specs.declared.actions.Denier.the-variants.{At}
+use Rattle.board.proofs.Denying.{DeniesFrom, denies-none, denies-new, denies-same, denies-all}
 use Rattle.board.proofs.Playing.{ready-at}
 use Rattle.board.proofs.actions.lowest_denier.Statement.{statement}
 use Rattle.board.proofs.actions.lowest_denier.Tie as tie
@@ -19,13 +24,16 @@ use Rattle.board.proofs.actions.denies.Reads as denies-reads
 use Rattle.board.proofs.places.case_at.Reads as case-at-reads
 
 abbrev Inv-loop : tie.InvT-loop
-Inv-loop board area actions action i₀ i = (i ≤ 8) × NoneDenies board area action i
+Inv-loop board area actions action found₀ left₀ found left = (left ≤ 8) × DeniesFrom board area action left found
 
 abbrev μ-loop : tie.MeasureT-loop
-μ-loop board area actions action i₀ i = 8 - i
+μ-loop board area actions action found₀ left₀ found left = left
 
 loop-holds : tie.Need-loop-holds Inv-loop μ-loop
-loop-holds c = (search needs, λ j h. absurd (let z = h in omega arith))
+loop-holds c = (search needs, denies-none (c .before .args .board) (c .before .args .area .now) (c .before .args .action))
+
+sub-place : tie.Need-sub-place Inv-loop μ-loop
+sub-place c = search needs
 
 case-at-requires : tie.Need-case-at-requires Inv-loop μ-loop
 case-at-requires c κs = search needs
@@ -35,9 +43,10 @@ denies-requires c κs =
     let at = c .before .before in
     let start = at .before .before in
     let g = start .args in
-    subst (λ (x : Case). Ready (g .area .now) (at .loop .i) x (g .actions) (g .action)) (sym (c .case-at .ensures)) (ready-at _ _ _ _ (start .pre) (at .loop .i) (c .before .loop-test .taken))
+    subst (λ (x : Case). Ready (g .area .now) (at .loop .left - 1) x (g .actions) (g .action)) (sym (c .case-at .ensures))
+    (ready-at _ _ _ _ (start .pre) (at .loop .left - 1) (omega arith))
 
--- whether place i denies
+-- whether the place denies
 module _ (c : tie.After-denies Inv-loop μ-loop) where
   abbrev head : tie.At-loop Inv-loop μ-loop
   head = c .before .before .before
@@ -45,27 +54,48 @@ module _ (c : tie.After-denies Inv-loop μ-loop) where
   abbrev start : tie.Start Inv-loop μ-loop
   start = head .before .before
 
-  denied : (b : Bool) → c .denies .result ≡ b → denies (tableAt (start .args .area .now) (head .loop .i)) (start .args .action) (caseAt (start .args .board) (head .loop .i)) ≡ b
+  abbrev board : Board
+  board = start .args .board
+
+  abbrev area : List ℕ
+  area = start .args .area .now
+
+  abbrev place : ℕ
+  place = head .loop .left - 1
+
+  denied : (b : Bool) → c .denies .result ≡ b → denies (tableAt area place) (start .args .action) (caseAt board place) ≡ b
   denied b e =
-      ap (λ (x : Case). denies (tableAt (start .args .area .now) (head .loop .i)) (start .args .action) x) (sym (c .before .case-at .ensures))
-      ∙ sym (c .denies .ensures) ∙ e
+      ap (λ (x : Case). denies (tableAt area place) (start .args .action) x) (sym (c .before .case-at .ensures)) ∙ sym (c .denies .ensures) ∙ e
 
-returns : tie.Need-returns Inv-loop μ-loop
-returns c =
-    let d = c .before in
-    record { below = d .before .before .loop-test .taken; denying = denied d true (c .if1 .taken); lowest = head d .loop .inv .1 }
+  -- what is known with this place too
+  abbrev Known : Denier → Type 0
+  Known x = DeniesFrom board area (start .args .action) place x
 
-add-i : tie.Need-add-i Inv-loop μ-loop
-add-i c = search needs
+  found-here : c .denies .result ≡ true → Known (At place)
+  found-here e = denies-new board area (start .args .action) (head .loop .left) (omega arith) (omega arith) (denied true e)
+
+  as-before : c .denies .result ≡ false → Known (head .loop .found)
+  as-before e = denies-same board area (start .args .action) (head .loop .left) (omega arith) (omega arith) (denied false e) (head .loop .found) (head .loop .inv .1)
+
+sub-left : tie.Need-sub-left Inv-loop μ-loop
+sub-left c = search needs
 
 loop-less : tie.Need-loop-less Inv-loop μ-loop
 loop-less c = search needs
 
 loop-again : tie.Need-loop-again Inv-loop μ-loop
-loop-again c = (search needs, below-more _ _ (head (c .before) .loop .inv .1) (denied (c .before) false (c .if1 .left)))
+loop-again c =
+    let d = c .before in
+    (search needs,
+    ⊎-elim (λ w. subst (λ (x : Denier). Known d x) (sym (w .1)) (found-here d (w .0 .taken))) (λ w. subst (λ (x : Denier). Known d x) (sym (w .1)) (as-before d (w .0 .left)))
+    (c .if1 .came))
 
-returns-2 : tie.Need-returns-2 Inv-loop μ-loop
-returns-2 c = λ i h. c .before .loop .inv .1 i (let z = h in omega arith)
+returns : tie.Need-returns Inv-loop μ-loop
+returns c =
+    let at = c .before in
+    let g = at .before .before .args in
+    let end : at .loop .left ≡ 0 = omega arith in
+    denies-all (g .board) (g .area .now) (g .action) (at .loop .found) (subst (λ (m : ℕ). DeniesFrom (g .board) (g .area .now) (g .action) m (at .loop .found)) end (at .loop .inv .1))
 
 pub lowest-denier-spec : {M : Type 1} → statement M
 lowest-denier-spec =
@@ -74,10 +104,10 @@ lowest-denier-spec =
     Inv-loop
     μ-loop
     loop-holds
+    sub-place
     case-at-requires
     denies-requires
-    returns
-    add-i
+    sub-left
     loop-less
     loop-again
-    returns-2)
+    returns)

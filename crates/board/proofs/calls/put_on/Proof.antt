@@ -9,6 +9,7 @@ use Rattle.table.specs.declared.Loaded.{Loaded}
 use Rattle.table.specs.Answer.{modeNumber, answerOf, accepted, Loads}
 use Rattle.board.specs.Places.{caseAt, taken, withCase}
 use Rattle.board.specs.Possible.{Possible}
+use Rattle.board.specs.Survey.{isImpossible}
 use Rattle.board.specs.Calls.{PutsOn, put-14, put-13, put-25, put-22, put-refused, put-23, put, done, firstCase}
 use Rattle.board.specs.declared.Board.{Board}
 use Rattle.board.specs.declared.Case.{Case}
@@ -40,30 +41,40 @@ module _ (c : tie.After-impossible) where
   abbrev area : List ℕ
   area = start .args .area .now
 
--- a board that can be
 module _ (c : tie.After-taken) where
   abbrev looked : tie.After-impossible
-  looked = c .before .before .before
-
-  possible : Possible (board looked) (area looked)
-  possible = can-be (board looked) (area looked) (looked .before .survey .result) (looked .before .survey .ensures) (sym (looked .impossible .ensures) ∙ c .before .before .if3 .left)
+  looked = c .before .before
 
   place-taken : (b : Bool) → c .taken .result ≡ b → taken (caseAt (board looked) (start looked .args .place)) ≡ b
   place-taken b e = ap taken (sym (c .before .case-at .ensures)) ∙ sym (c .taken .ensures) ∙ e
 
+-- a board that can be
+module _ (c : tie.Else3) where
+  abbrev tested : tie.After-taken
+  tested = c .before
+
+  can : isImpossible (looked tested .before .survey .result) ≡ false
+  can = sym (looked tested .impossible .ensures) ∙ c .if3 .left
+
+  possible : Possible (board (looked tested)) (area (looked tested))
+  possible = can-be (board (looked tested)) (area (looked tested)) (looked tested .before .survey .result) (looked tested .before .survey .ensures) can
+
 -- an empty place, and what the loader answers
 module _ (c : tie.After-load) where
-  abbrev empty : tie.After-taken
-  empty = c .before .before
+  abbrev able : tie.Else3
+  able = c .before .before
+
+  abbrev entered : tie.After-impossible
+  entered = looked (tested able)
 
   abbrev table : List ℕ
-  table = start (looked empty) .args .table .now
+  table = start entered .args .table .now
 
   answers : (l : Loaded) → c .load .result ≡ l → Loads table (answerOf l)
   answers l e = subst (λ (x : Loaded). Loads table (answerOf x)) e (c .load .ensures)
 
-  free : taken (caseAt (board (looked empty)) (start (looked empty) .args .place)) ≡ false
-  free = place-taken empty false (c .before .if4 .left)
+  free : taken (caseAt (board entered) (start entered .args .place)) ≡ false
+  free = place-taken (tested able) false (c .before .if4 .left)
 
 -- a table that the loader accepts
 module _ (c : tie.After-mode) where
@@ -85,25 +96,25 @@ survey-requires c κs = search needs
 impossible-requires : tie.Need-impossible-requires
 impossible-requires c κs = search needs
 
-same-length : tie.Need-same-length
-same-length c = search needs
-
-returns-3 : tie.Need-returns-3
-returns-3 c =
-    let w = c .before in
-    put-25 (omega arith) (omega arith) (cannot-be (board w) (area w) (w .before .survey .result) (w .before .survey .ensures) (sym (w .impossible .ensures) ∙ c .if3 .taken))
-
 case-at-requires : tie.Need-case-at-requires
 case-at-requires c κs = search needs
 
 taken-requires : tie.Need-taken-requires
 taken-requires c κs = search needs
 
+same-length : tie.Need-same-length
+same-length c = search needs
+
+returns-3 : tie.Need-returns-3
+returns-3 c =
+    let w = looked (c .before) in
+    put-25 (omega arith) (omega arith) (cannot-be (board w) (area w) (w .before .survey .result) (w .before .survey .ensures) (sym (w .impossible .ensures) ∙ c .if3 .taken))
+
 same-length-2 : tie.Need-same-length-2
 same-length-2 c = search needs
 
 returns-4 : tie.Need-returns-4
-returns-4 c = put-22 (omega arith) (omega arith) (possible (c .before)) (place-taken (c .before) true (c .if4 .taken))
+returns-4 c = put-22 (omega arith) (omega arith) (possible (c .before)) (place-taken (tested (c .before)) true (c .if4 .taken))
 
 load-requires : tie.Need-load-requires
 load-requires c κs = search needs
@@ -135,7 +146,7 @@ same-length-3 c = search needs
 returns-5 : tie.Need-returns-5
 returns-5 c =
     let l = c .before .before in
-    put-refused (omega arith) (omega arith) (possible (empty l)) (free l) 10 (answers l _ (c .enum-told .given .1))
+    put-refused (omega arith) (omega arith) (possible (able l)) (free l) 10 (answers l _ (c .enum-told .given .1))
 
 same-length-4 : tie.Need-same-length-4
 same-length-4 c = search needs
@@ -143,7 +154,7 @@ same-length-4 c = search needs
 returns-6 : tie.Need-returns-6
 returns-6 c =
     let l = c .before .before in
-    put-refused (omega arith) (omega arith) (possible (empty l)) (free l) 11 (answers l _ (c .enum-told2 .given .1))
+    put-refused (omega arith) (omega arith) (possible (able l)) (free l) 11 (answers l _ (c .enum-told2 .given .1))
 
 same-length-5 : tie.Need-same-length-5
 same-length-5 c = search needs
@@ -155,12 +166,12 @@ returns-7 c =
     let a = t .before in
     let m = a .before .before in
     let l = loaded m in
-    let w = looked (empty l) in
+    let w = entered l in
     let place = start w .args .place in
     let next = c .with-case .ensures ∙ ap (λ (x : Case). withCase (board w) place x) (c .before .first-case .ensures) in
     subst (λ (b : Board). PutsOn (board w) (area w) place (table l) done b (z .write-place .last .0)) (sym next)
     (subst (λ (x : List ℕ). PutsOn (board w) (area w) place (table l) done (withCase (board w) place (firstCase (modeNumber (m .mode .given .0 .0)))) x) (sym (z .write-place .ensures))
-    (put (omega arith) (omega arith) (possible (empty l)) (free l) _ _ _ (loads m)
+    (put (omega arith) (omega arith) (possible (able l)) (free l) _ _ _ (loads m)
     (same-actions (board w) (area w) (w .before .survey .result) (m .mode .given .0 .1 .0) (w .before .survey .ensures) (sym (a .admits .ensures) ∙ t .if5 .taken))))
 
 same-length-6 : tie.Need-same-length-6
@@ -171,9 +182,9 @@ returns-8 c =
     let a = c .before in
     let m = a .before .before in
     let l = loaded m in
-    let w = looked (empty l) in
-    put-23 (omega arith) (omega arith) (possible (empty l)) (free l) _ _ _ (loads m)
-    (other-actions (board w) (area w) (w .before .survey .result) (m .mode .given .0 .1 .0) (w .before .survey .ensures) (sym (w .impossible .ensures) ∙ empty l .before .before .if3 .left) (sym (a .admits .ensures) ∙ c .if5 .left))
+    let w = entered l in
+    put-23 (omega arith) (omega arith) (possible (able l)) (free l) _ _ _ (loads m)
+    (other-actions (board w) (area w) (w .before .survey .result) (m .mode .given .0 .1 .0) (w .before .survey .ensures) (can (able l)) (sym (a .admits .ensures) ∙ c .if5 .left))
 
 pub put-on-spec : {M : Type 1} → statement M
 put-on-spec =
@@ -183,10 +194,10 @@ put-on-spec =
     returns-2
     survey-requires
     impossible-requires
-    same-length
-    returns-3
     case-at-requires
     taken-requires
+    same-length
+    returns-3
     same-length-2
     returns-4
     load-requires
