@@ -6,10 +6,9 @@ use mathlib.Core.List.{List}
 use Prim.Native.Nat.{ℕ}
 use lib.Dec.{eqb}
 use borrow.Author.Tests.{eq-eqb, ne-eqb}
-use Rattle.board.specs.Calls.{entryAt, denies, watchedMove}
+use Rattle.board.specs.Calls.{entryAt, denies}
 use Rattle.board.specs.Steps.{Readable, Ready, Steps}
-use Rattle.board.specs.declared.Case.{Case}
-use Rattle.board.specs.declared.Case.the-variants.{Empty, Enforced, Watched, Fulfilled}
+use Rattle.board.specs.declared.Case.the-variants.{Enforced, Watched, Fulfilled}
 
 module _ (area : List ℕ) (place row actions action : ℕ) where
   pub readable-enforced : Ready area place (Enforced row) actions action → Readable area place row actions action
@@ -19,6 +18,10 @@ module _ (area : List ℕ) (place row actions action : ℕ) where
   pub readable-watched : Ready area place (Watched row) actions action → Readable area place row actions action
   readable-watched r =
       record { within = r .within; formed = r .fits .0 .formed; acting = r .acting refl; row-below = r .fits .1; listed = r .listed }
+
+-- a rule that is fulfilled stays so, and is not reported again
+pub steps-fulfilled-before : (table : List ℕ) (action : ℕ) → Steps table action Fulfilled Fulfilled false
+steps-fulfilled-before table action = record { goes = refl; reports = refl }
 
 module _ (table : List ℕ) (action row e : ℕ) (read : e ≡ entryAt table row action) where
   pub denies-enforced : eqb e 255 ≡ denies table action (Enforced row)

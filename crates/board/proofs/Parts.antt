@@ -1,15 +1,15 @@
 -- A table as the front part of its place: its header is the place's, and its entries stand in the area.
 -- Assumes nothing.
-use mathlib.Core.Path.{_≡_, refl, sym, _∙_, ap, subst}
+use mathlib.Core.Path.{_≡_, sym, _∙_, ap}
 use mathlib.Core.List.{List}
-use Prim.Native.Nat.{ℕ, _+_, _*_, _-_, _≤_, _<_}
+use Prim.Native.Nat.{ℕ, _+_, _*_, _-_, _<_}
 use native.Mathlib.Omega.{arith}
 use lib.Arith.{digits-lt}
 use lib.ListN.{length, getD, take, drop, length-take, length-drop}
 use lib.Seq.{getD-take, getD-drop, length-take-le}
 use Rattle.base.proofs.Lists.{getD-within}
 use Rattle.base.specs.Word.{wordAt}
-use Rattle.table.specs.Table.{typeOf, rowsOf, actionsOf, offsetOf, HeaderFits, WellFormed}
+use Rattle.table.specs.Table.{rowsOf, HeaderFits}
 use Rattle.board.specs.Places.{placeBytes, tableAt, tableLength}
 use Rattle.board.specs.Calls.{entryAt}
 use Rattle.board.specs.Steps.{Readable}

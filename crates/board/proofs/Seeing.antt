@@ -1,7 +1,7 @@
 -- One place: what check 10 found there, as whether its rule fits its case.
 -- Assumes nothing.
 use mathlib.Core.Path.{_≡_, refl, sym, _∙_}
-use mathlib.Core.Bool.{true, false}
+use mathlib.Core.Bool.{false}
 use mathlib.Core.List.{List}
 use Prim.Native.Nat.{ℕ, _≤_, _<_}
 use native.Mathlib.Nat.{mul-le-mul}
@@ -12,8 +12,8 @@ use Rattle.trace.proofs.Laws.{not-both}
 use Rattle.table.specs.Table.{actionsOf}
 use Rattle.table.specs.Answer.{modeNumber, FormedAs, accepted, Loads, accepts}
 use Rattle.board.specs.Places.{taken}
-use Rattle.board.specs.Possible.{Holds, CaseFits}
-use Rattle.board.specs.Survey.{HoldsAt, SeesRule, Sees, FitsWith}
+use Rattle.board.specs.Possible.{CaseFits}
+use Rattle.board.specs.Survey.{HoldsAt, SeesRule, Sees}
 use Rattle.board.specs.declared.Case.{Case}
 use Rattle.board.specs.declared.Case.the-variants.{Empty, Enforced, Watched, Fulfilled}
 use Rattle.board.specs.declared.survey.Seen.{Seen}

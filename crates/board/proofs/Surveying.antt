@@ -1,6 +1,6 @@
 -- All places: what is known of those below n, with one place more, and at the end.
 -- Assumes nothing.
-use mathlib.Core.Path.{_≡_, refl, sym, _∙_, subst}
+use mathlib.Core.Path.{_≡_, refl, sym, _∙_}
 use mathlib.Core.Bool.{Bool, true, false, cond}
 use mathlib.Core.List.{List}
 use Prim.Native.Nat.{ℕ, _+_, _<_}
@@ -12,7 +12,7 @@ use Rattle.trace.proofs.Laws.{not-both}
 use Rattle.table.specs.Table.{actionsOf}
 use Rattle.board.specs.Places.{caseAt, taken, tableAt}
 use Rattle.board.specs.Possible.{CaseFits, Possible}
-use Rattle.board.specs.Survey.{Sees, Over, Surveys, joined, isImpossible, admitted}
+use Rattle.board.specs.Survey.{Sees, Surveys, joined, isImpossible, admitted}
 use Rattle.board.specs.Calls.{SameActions}
 use Rattle.board.specs.declared.Board.{Board}
 use Rattle.board.specs.declared.survey.Seen.{Seen}

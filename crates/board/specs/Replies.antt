@@ -1,6 +1,5 @@
 -- The answers of the board's four calls in document 01's numbers and values, one line a case.
 -- Assumes nothing.
-use Prim.Native.Nat.{ℕ}
 use Rattle.board.specs.Calls.{Reply, done, permitted, denied, input, state}
 use Rattle.board.specs.declared.Made.{Made}
 use Rattle.board.specs.declared.Made.the-variants as made

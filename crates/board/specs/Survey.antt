@@ -5,10 +5,10 @@ use mathlib.Core.Bool.{Bool, true, false, cond}
 use mathlib.Core.List.{List}
 use Prim.Native.Nat.{ℕ, _<_}
 use lib.Dec.{eqb}
-use Rattle.table.specs.Table.{rowsOf, actionsOf, WellFormed}
-use Rattle.board.specs.Places.{caseAt, taken, tableAt}
+use Rattle.table.specs.Table.{rowsOf, actionsOf}
+use Rattle.board.specs.Places.{caseAt, taken}
 use Rattle.board.specs.Possible.{Holds, CaseFits, Possible}
-use Rattle.board.specs.Calls.{Whole, SameActions, Vacant, NoneDenies, denies}
+use Rattle.board.specs.Calls.{Whole, SameActions, Vacant}
 use Rattle.board.specs.declared.Case.{Case}
 use Rattle.board.specs.declared.Board.{Board}
 use Rattle.board.specs.declared.survey.Seen.{Seen}

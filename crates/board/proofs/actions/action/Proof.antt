@@ -14,11 +14,6 @@ use Rattle.board.proofs.Playing.{in-list}
 use borrow.Author.Needs.{needs}
 use Rattle.board.proofs.actions.action.Statement.{statement}
 use Rattle.board.proofs.actions.action.Tie as tie
-use Rattle.board.proofs.actions.action.Reads as reads
-use Rattle.board.proofs.actions.action.Lts as lts
-use Rattle.board.proofs.actions.lowest_denier.Reads as lowest-denier-reads
-use Rattle.board.proofs.actions.move_all.Reads as move-all-reads
-use Rattle.board.proofs.survey.survey.Reads as survey-reads
 
 returns : tie.Need-returns
 returns c = act-14 (λ w. omega arith)

@@ -1,16 +1,14 @@
 -- `board::actions::bit` meets its contract.
 -- Assumes nothing.
-use mathlib.Core.Path.{_≡_, sym, _∙_, ap}
+use mathlib.Core.Path.{sym, _∙_, ap}
 use mathlib.Core.Bool.{Bool, cond}
-use Prim.Native.Nat.{ℕ, _^_}
+use Prim.Native.Nat.{_^_}
 use native.Mathlib.Nat.{one-mul}
 use native.Mathlib.Omega.{arith}
 use lib.Pow.{shl-exact}
 use borrow.Author.Needs.{needs}
 use Rattle.board.proofs.actions.bit.Statement.{statement}
 use Rattle.board.proofs.actions.bit.Tie as tie
-use Rattle.board.proofs.actions.bit.Reads as reads
-use Rattle.board.proofs.actions.bit.Lts as lts
 
 cast-result : tie.Need-cast-result
 cast-result c = search needs

@@ -1,7 +1,6 @@
 -- `board::actions::denies` meets its contract, case by case.
 -- Assumes nothing.
-use mathlib.Core.Path.{_≡_, sym, _∙_, ap, subst}
-use Prim.Native.Nat.{ℕ}
+use mathlib.Core.Path.{sym, _∙_, ap, subst}
 use Rattle.board.specs.Calls.{denies}
 use Rattle.board.specs.Places.{tableAt}
 use Rattle.board.specs.Steps.{Ready}
@@ -10,9 +9,6 @@ use Rattle.board.proofs.Moving.{readable-enforced, denies-enforced}
 use borrow.Author.Needs.{needs}
 use Rattle.board.proofs.actions.denies.Statement.{statement}
 use Rattle.board.proofs.actions.denies.Tie as tie
-use Rattle.board.proofs.actions.denies.Reads as reads
-use Rattle.board.proofs.actions.denies.Lts as lts
-use Rattle.board.proofs.actions.entry.Reads as entry-reads
 
 enum-told : tie.Need-enum-told
 enum-told c = search needs

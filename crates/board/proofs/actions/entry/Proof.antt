@@ -1,6 +1,6 @@
 -- `board::actions::entry` meets its contract.
 -- Assumes nothing.
-use mathlib.Core.Path.{_≡_, _∙_, ap}
+use mathlib.Core.Path.{_∙_, ap}
 use mathlib.Core.List.{List}
 use Prim.Native.Nat.{ℕ, _+_, _*_, _<_}
 use native.Mathlib.Omega.{arith}
@@ -9,10 +9,6 @@ use Rattle.board.proofs.Parts.{part-long, index-in-place, entry-in-plac
 use borrow.Author.Needs.{needs}
 use Rattle.board.proofs.actions.entry.Statement.{statement}
 use Rattle.board.proofs.actions.entry.Tie as tie
-use Rattle.board.proofs.actions.entry.Reads as reads
-use Rattle.board.proofs.actions.entry.Lts as lts
-use Rattle.base.proofs.byte.Reads as byte-reads
-use Rattle.board.proofs.places.place_bytes.Reads as place-bytes-reads
 
 place-bytes-requires : tie.Need-place-bytes-requires
 place-bytes-requires c κs = search needs

@@ -18,10 +18,6 @@ use Rattle.board.proofs.Denying.{DeniesFrom, denies-none, denies-new, d
 use Rattle.board.proofs.Playing.{ready-at}
 use Rattle.board.proofs.actions.lowest_denier.Statement.{statement}
 use Rattle.board.proofs.actions.lowest_denier.Tie as tie
-use Rattle.board.proofs.actions.lowest_denier.Reads as reads
-use Rattle.board.proofs.actions.lowest_denier.Lts as lts
-use Rattle.board.proofs.actions.denies.Reads as denies-reads
-use Rattle.board.proofs.places.case_at.Reads as case-at-reads
 
 abbrev Inv-loop : tie.InvT-loop
 Inv-loop board area actions action found₀ left₀ found left = (left ≤ 8) × DeniesFrom board area action left found

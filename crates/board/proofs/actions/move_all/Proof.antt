@@ -2,7 +2,7 @@
 -- Assumes nothing.
 use mathlib.Core.Path.{_≡_, sym, subst}
 use mathlib.Core.List.{List}
-use Prim.Native.Nat.{ℕ, _+_, _≤_, _<_, _-_}
+use Prim.Native.Nat.{ℕ, _+_, _≤_, _-_}
 use native.Mathlib.Omega.{arith}
 use borrow.Author.Needs.{needs}
 use Rattle.board.specs.Places.{caseAt, tableAt, withCase}
@@ -12,13 +12,6 @@ use Rattle.board.specs.declared.Case.{Case}
 use Rattle.board.proofs.Playing.{MovedBelow, ready-at, moved-none, moved-more, moved-all, set-fits}
 use Rattle.board.proofs.actions.move_all.Statement.{statement}
 use Rattle.board.proofs.actions.move_all.Tie as tie
-use Rattle.board.proofs.actions.move_all.Reads as reads
-use Rattle.board.proofs.actions.move_all.Lts as lts
-use Rattle.board.proofs.actions.bit.Reads as bit-reads
-use Rattle.board.proofs.actions.move_rule.Reads as move-rule-reads
-use Rattle.board.proofs.places.case_at.Reads as case-at-reads
-use Rattle.board.proofs.places.empty_board.Reads as empty-board-reads
-use Rattle.board.proofs.places.with_case.Reads as with-case-reads
 
 abbrev Inv-loop : tie.InvT-loop
 Inv-loop board area actions action next₀ fulfilled₀ i₀ next fulfilled i = (i ≤ 8) × MovedBelow board area action i next fulfilled

@@ -1,19 +1,15 @@
 -- `board::actions::move_rule` meets its contract, case by case.
 -- Assumes nothing.
-use mathlib.Core.Path.{_≡_, sym, subst}
+use mathlib.Core.Path.{sym, subst}
 use mathlib.Core.Bool.{true, false}
-use Prim.Native.Nat.{ℕ}
 use Rattle.board.specs.Places.{tableAt}
 use Rattle.board.specs.Steps.{Ready, Steps}
 use Rattle.board.specs.declared.Case.{Case}
 use Rattle.board.specs.declared.Case.the-variants.{Enforced, Watched, Fulfilled}
-use Rattle.board.proofs.Moving.{readable-enforced, readable-watched, steps-enforced, steps-fulfilled, steps-watched}
+use Rattle.board.proofs.Moving.{readable-enforced, readable-watched, steps-enforced, steps-fulfilled, steps-watched, steps-fulfilled-before}
 use borrow.Author.Needs.{needs}
 use Rattle.board.proofs.actions.move_rule.Statement.{statement}
 use Rattle.board.proofs.actions.move_rule.Tie as tie
-use Rattle.board.proofs.actions.move_rule.Reads as reads
-use Rattle.board.proofs.actions.move_rule.Lts as lts
-use Rattle.board.proofs.actions.entry.Reads as entry-reads
 
 enum-told : tie.Need-enum-told
 enum-told c = search needs
@@ -66,7 +62,9 @@ returns-4 c =
     (steps-watched _ _ _ _ (c .before .entry2 .ensures) (c .if1 .left))
 
 returns-5 : tie.Need-returns-5
-returns-5 c = search needs
+returns-5 c =
+    let g = c .before .before .before .args in
+    subst (λ (x : Case). Steps (tableAt (g .area .now) (g .place)) (g .action) x Fulfilled false) (sym (c .enum-told2 .given .1)) (steps-fulfilled-before _ _)
 
 pub move-rule-spec : {M : Type 1} → statement M
 move-rule-spec =

@@ -3,8 +3,6 @@
 use borrow.Author.Needs.{needs}
 use Rattle.board.proofs.calls.first_case.Statement.{statement}
 use Rattle.board.proofs.calls.first_case.Tie as tie
-use Rattle.board.proofs.calls.first_case.Reads as reads
-use Rattle.board.proofs.calls.first_case.Lts as lts
 
 enum-told : tie.Need-enum-told
 enum-told c = search needs

@@ -13,10 +13,6 @@ use Rattle.board.proofs.Written.{cleared-front}
 use borrow.Author.Needs.{needs}
 use Rattle.board.proofs.calls.new_board.Statement.{statement}
 use Rattle.board.proofs.calls.new_board.Tie as tie
-use Rattle.board.proofs.calls.new_board.Reads as reads
-use Rattle.board.proofs.calls.new_board.Lts as lts
-use Rattle.base.proofs.clear.Reads as clear-reads
-use Rattle.board.proofs.places.empty_board.Reads as empty-board-reads
 
 empty-board-requires : tie.Need-empty-board-requires
 empty-board-requires c κs = search needs

@@ -18,17 +18,6 @@ use Rattle.board.proofs.Surveying.{cannot-be, can-be, same-actions, oth
 use borrow.Author.Needs.{needs}
 use Rattle.board.proofs.calls.put_on.Statement.{statement}
 use Rattle.board.proofs.calls.put_on.Tie as tie
-use Rattle.board.proofs.calls.put_on.Reads as reads
-use Rattle.board.proofs.calls.put_on.Lts as lts
-use Rattle.board.proofs.calls.first_case.Reads as first-case-reads
-use Rattle.board.proofs.places.case_at.Reads as case-at-reads
-use Rattle.board.proofs.places.taken.Reads as taken-reads
-use Rattle.board.proofs.places.with_case.Reads as with-case-reads
-use Rattle.board.proofs.places.write_place.Reads as write-place-reads
-use Rattle.board.proofs.survey.admits.Reads as admits-reads
-use Rattle.board.proofs.survey.impossible.Reads as impossible-reads
-use Rattle.board.proofs.survey.survey.Reads as survey-reads
-use Rattle.table.proofs.load.Reads as load-reads
 
 -- the board and the area, where both are looked at
 module _ (c : tie.After-impossible) where

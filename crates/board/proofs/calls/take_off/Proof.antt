@@ -14,14 +14,6 @@ use Rattle.board.proofs.Surveying.{cannot-be, can-be}
 use borrow.Author.Needs.{needs}
 use Rattle.board.proofs.calls.take_off.Statement.{statement}
 use Rattle.board.proofs.calls.take_off.Tie as tie
-use Rattle.board.proofs.calls.take_off.Reads as reads
-use Rattle.board.proofs.calls.take_off.Lts as lts
-use Rattle.board.proofs.places.case_at.Reads as case-at-reads
-use Rattle.board.proofs.places.clear_place.Reads as clear-place-reads
-use Rattle.board.proofs.places.taken.Reads as taken-reads
-use Rattle.board.proofs.places.with_case.Reads as with-case-reads
-use Rattle.board.proofs.survey.impossible.Reads as impossible-reads
-use Rattle.board.proofs.survey.survey.Reads as survey-reads
 
 -- the board and the area, where both are looked at
 module _ (c : tie.After-impossible) where

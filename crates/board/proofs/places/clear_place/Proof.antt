@@ -6,9 +6,6 @@ use Rattle.board.proofs.Written.{cleared-part}
 use borrow.Author.Needs.{needs}
 use Rattle.board.proofs.places.clear_place.Statement.{statement}
 use Rattle.board.proofs.places.clear_place.Tie as tie
-use Rattle.board.proofs.places.clear_place.Reads as reads
-use Rattle.board.proofs.places.clear_place.Lts as lts
-use Rattle.base.proofs.clear.Reads as clear-reads
 
 mul-from : tie.Need-mul-from
 mul-from c = search needs

@@ -6,10 +6,6 @@ use Rattle.board.proofs.Written.{written-part}
 use borrow.Author.Needs.{needs}
 use Rattle.board.proofs.places.write_place.Statement.{statement}
 use Rattle.board.proofs.places.write_place.Tie as tie
-use Rattle.board.proofs.places.write_place.Reads as reads
-use Rattle.board.proofs.places.write_place.Lts as lts
-use Rattle.base.proofs.clear.Reads as clear-reads
-use Rattle.base.proofs.copy.Reads as copy-reads
 
 mul-from : tie.Need-mul-from
 mul-from c = search needs

@@ -3,8 +3,6 @@
 use borrow.Author.Needs.{needs}
 use Rattle.board.proofs.survey.admits.Statement.{statement}
 use Rattle.board.proofs.survey.admits.Tie as tie
-use Rattle.board.proofs.survey.admits.Reads as reads
-use Rattle.board.proofs.survey.admits.Lts as lts
 
 enum-told : tie.Need-enum-told
 enum-told c = search needs

@@ -1,10 +1,9 @@
 -- `board::survey::check_at` meets its contract: the part of the place that its header gives is checked.
 -- Assumes nothing.
-use mathlib.Core.Path.{_≡_, sym, subst}
+use mathlib.Core.Path.{sym, subst}
 use mathlib.Core.List.{List}
-use Prim.Native.Nat.{ℕ, _+_, _*_}
+use Prim.Native.Nat.{ℕ, _*_}
 use native.Mathlib.Omega.{arith}
-use lib.ListN.{length}
 use lib.Seq.{length-take-le}
 use Rattle.table.specs.Table.{rowsOf, actionsOf}
 use Rattle.table.specs.declared.Header.{Header}
@@ -15,11 +14,6 @@ use Rattle.board.proofs.Parts.{part-long, header-of-part}
 use borrow.Author.Needs.{needs}
 use Rattle.board.proofs.survey.check_at.Statement.{statement}
 use Rattle.board.proofs.survey.check_at.Tie as tie
-use Rattle.board.proofs.survey.check_at.Reads as reads
-use Rattle.board.proofs.survey.check_at.Lts as lts
-use Rattle.board.proofs.places.place_bytes.Reads as place-bytes-reads
-use Rattle.table.proofs.check.Reads as check-reads
-use Rattle.table.proofs.header_of.Reads as header-of-reads
 
 place-bytes-requires : tie.Need-place-bytes-requires
 place-bytes-requires c κs = search needs

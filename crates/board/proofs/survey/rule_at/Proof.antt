@@ -1,6 +1,6 @@
 -- `board::survey::rule_at` meets its contract.
 -- Assumes nothing.
-use mathlib.Core.Path.{_≡_, sym, _∙_, subst}
+use mathlib.Core.Path.{sym, _∙_, subst}
 use mathlib.Core.List.{List}
 use Prim.Native.Nat.{ℕ}
 use Rattle.table.specs.declared.Header.{Header}
@@ -10,10 +10,6 @@ use Rattle.board.proofs.Seeing.{rule-fits, rule-of-other-type, row-past
 use borrow.Author.Needs.{needs}
 use Rattle.board.proofs.survey.rule_at.Statement.{statement}
 use Rattle.board.proofs.survey.rule_at.Tie as tie
-use Rattle.board.proofs.survey.rule_at.Reads as reads
-use Rattle.board.proofs.survey.rule_at.Lts as lts
-use Rattle.board.proofs.survey.check_at.Reads as check-at-reads
-use Rattle.board.proofs.survey.type_number.Reads as type-number-reads
 
 check-at-requires : tie.Need-check-at-requires
 check-at-requires c κs = search needs

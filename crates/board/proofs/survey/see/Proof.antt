@@ -1,14 +1,9 @@
 -- `board::survey::see` meets its contract, case by case.
 -- Assumes nothing.
-use mathlib.Core.Path.{sym, subst}
-use Rattle.board.specs.Survey.{Sees}
 use Rattle.board.proofs.Seeing.{sees-enforced, sees-watched, sees-fulfilled}
 use borrow.Author.Needs.{needs}
 use Rattle.board.proofs.survey.see.Statement.{statement}
 use Rattle.board.proofs.survey.see.Tie as tie
-use Rattle.board.proofs.survey.see.Reads as reads
-use Rattle.board.proofs.survey.see.Lts as lts
-use Rattle.board.proofs.survey.rule_at.Reads as rule-at-reads
 
 enum-told : tie.Need-enum-told
 enum-told c = search needs

@@ -5,17 +5,12 @@ use Prim.Native.Nat.{ℕ, _≤_, _+_, _-_}
 use native.Mathlib.Omega.{arith}
 use borrow.Author.Needs.{needs}
 use Rattle.board.specs.Places.{tableAt}
-use Rattle.board.specs.Survey.{Sees, joined}
+use Rattle.board.specs.Survey.{Sees}
 use Rattle.board.specs.declared.Case.{Case}
 use Rattle.board.specs.declared.survey.Found.{Found}
 use Rattle.board.proofs.Surveying.{SurveysBelow, survey-none, survey-more, survey-all}
 use Rattle.board.proofs.survey.survey.Statement.{statement}
 use Rattle.board.proofs.survey.survey.Tie as tie
-use Rattle.board.proofs.survey.survey.Reads as reads
-use Rattle.board.proofs.survey.survey.Lts as lts
-use Rattle.board.proofs.places.case_at.Reads as case-at-reads
-use Rattle.board.proofs.survey.join.Reads as join-reads
-use Rattle.board.proofs.survey.see.Reads as see-reads
 
 abbrev Inv-loop : tie.InvT-loop
 Inv-loop board area found₀ i₀ found i = (i ≤ 8) × SurveysBelow board area i found
