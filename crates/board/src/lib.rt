@@ -1,5 +1,14 @@
 // The board: up to eight tables that permit or deny each action.
 
+mod actions;
+mod calls;
+mod places;
+mod survey;
+pub use actions::action;
+pub use calls::new_board;
+pub use calls::put_on;
+pub use calls::take_off;
+
 // A place is empty, or holds an enforced rule and its row, or a watched rule and its row, or a watched rule fulfilled.
 pub enum Case {
     Empty,
@@ -14,4 +23,59 @@ pub struct Place {
 
 pub struct Board {
     pub places: [Place; 8],
+}
+
+// What each call answers. specs/Replies.antt gives document 01's number and values for each case.
+pub enum Made {
+    Board,
+    ShortArea,
+}
+
+pub enum Put {
+    On,
+    ShortArea,
+    NoPlace,
+    Impossible,
+    Taken,
+    Malformed,
+    NotCanonical,
+    OtherActions,
+}
+
+pub enum Take {
+    Off,
+    ShortArea,
+    NoPlace,
+    Impossible,
+    EmptyPlace,
+}
+
+pub enum Act {
+    Permitted(u8),
+    Denied(usize),
+    ShortArea,
+    Impossible,
+    EmptyBoard,
+    NoAction,
+}
+
+// An answer, with the board after the call.
+pub struct NewBoard {
+    pub answer: Made,
+    pub board: Board,
+}
+
+pub struct PutOn {
+    pub answer: Put,
+    pub board: Board,
+}
+
+pub struct TakenOff {
+    pub answer: Take,
+    pub board: Board,
+}
+
+pub struct Acted {
+    pub answer: Act,
+    pub board: Board,
 }

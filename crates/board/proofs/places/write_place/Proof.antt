@@ -1,0 +1,70 @@
+-- `board::places::write_place` meets its contract.
+-- Assumes nothing.
+use Prim.Native.Nat.{_*_}
+use native.Mathlib.Omega.{arith}
+use Rattle.board.proofs.Written.{written-part}
+use borrow.Author.Needs.{needs}
+use Rattle.board.proofs.places.write_place.Statement.{statement}
+use Rattle.board.proofs.places.write_place.Tie as tie
+
+mul-from : tie.Need-mul-from
+mul-from c = search needs
+
+add-to : tie.Need-add-to
+add-to c = search needs
+
+add-end : tie.Need-add-end
+add-end c = search needs
+
+sub-copy : tie.Need-sub-copy
+sub-copy c = search needs
+
+part-copy-start : tie.Need-part-copy-start
+part-copy-start c = search needs
+
+part-copy-end : tie.Need-part-copy-end
+part-copy-end c = search needs
+
+copy-requires : tie.Need-copy-requires
+copy-requires c κs = search needs
+
+sub-clear : tie.Need-sub-clear
+sub-clear c = search needs
+
+part-clear-start : tie.Need-part-clear-start
+part-clear-start c = search needs
+
+part-clear-end : tie.Need-part-clear-end
+part-clear-end c = search needs
+
+clear-requires : tie.Need-clear-requires
+clear-requires c κs = search needs
+
+same-length : tie.Need-same-length
+same-length c = search needs
+
+returns : tie.Need-returns
+returns c =
+    let z = c .before .before in
+    let w = z .before .before .before .before in
+    let start = w .before .before .before .before in
+    written-part (start .args .place * 1032) 1032 (start .args .area .now) (start .args .bytes .now) (w .copy .last .1 .0) (z .clear .last .0)
+    (omega (arith, start .pre .0 .whole, start .pre .0 .below)) (start .pre .1) (w .copy .ensures) (z .clear .ensures)
+
+pub write-place-spec : {M : Type 1} → statement M
+write-place-spec =
+    tie.close
+    (tie.spec
+    mul-from
+    add-to
+    add-end
+    sub-copy
+    part-copy-start
+    part-copy-end
+    copy-requires
+    sub-clear
+    part-clear-start
+    part-clear-end
+    clear-requires
+    same-length
+    returns)

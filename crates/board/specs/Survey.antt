@@ -1,0 +1,79 @@
+-- What the board's own functions find at a place and over all places.
+-- Assumes nothing.
+use mathlib.Core.Path.{_≡_}
+use mathlib.Core.Bool.{Bool, true, false, cond}
+use mathlib.Core.List.{List}
+use Prim.Native.Nat.{ℕ, _<_}
+use lib.Dec.{eqb}
+use Rattle.table.specs.Table.{rowsOf, actionsOf}
+use Rattle.board.specs.Places.{caseAt, taken}
+use Rattle.board.specs.Possible.{Holds, CaseFits, Possible}
+use Rattle.board.specs.Calls.{Whole, SameActions, Vacant}
+use Rattle.board.specs.declared.Case.{Case}
+use Rattle.board.specs.declared.Board.{Board}
+use Rattle.board.specs.declared.survey.Seen.{Seen}
+use Rattle.board.specs.declared.survey.Seen.the-variants as seen
+use Rattle.board.specs.declared.survey.Found.{Found}
+use Rattle.board.specs.declared.survey.Found.the-variants as found
+
+-- A place in an area that is long enough.
+pub record Within (area : List ℕ) (place : ℕ) : Type 0 where
+  pub whole : Whole area
+  pub below : place < 8
+
+-- A taken place whose table fits its case, and the table's count of actions.
+pub record FitsWith (table : List ℕ) (case : Case) (actions : ℕ) : Type 0 where
+  pub fits : CaseFits table case
+  pub on : taken case ≡ true
+  pub acting : actionsOf table ≡ actions
+
+-- A rule of a type at a row: it fits and has so many actions, or it cannot be.
+pub record HoldsAt (table : List ℕ) (type row : ℕ) : Type 0 where
+  pub holds : Holds table type
+  pub within : row < rowsOf table
+
+abbrev pub SeesRule : List ℕ → ℕ → ℕ → Seen → Type 0
+SeesRule table type row seen.Untaken = ⊥
+SeesRule table type row (seen.Fits actions) = HoldsAt table type row × (actionsOf table ≡ actions)
+SeesRule table type row seen.Misfit = HoldsAt table type row → ⊥
+
+-- One place: not taken, or it fits and has so many actions, or it cannot be.
+abbrev pub Sees : List ℕ → Case → Seen → Type 0
+Sees table case seen.Untaken = taken case ≡ false
+Sees table case (seen.Fits actions) = FitsWith table case actions
+Sees table case seen.Misfit = CaseFits table case → ⊥
+
+-- A board that can be, with a rule on, and every rule over so many actions.
+pub record Over (board : Board) (area : List ℕ) (actions : ℕ) : Type 0 where
+  pub possible : Possible board area
+  pub same : SameActions board area actions
+  pub place : ℕ
+  pub below : place < 8
+  pub on : taken (caseAt board place) ≡ true
+
+-- All places: the board cannot be, or no rule is on, or so many actions.
+abbrev pub Surveys : Board → List ℕ → Found → Type 0
+Surveys board area found.Impossible = Possible board area → ⊥
+Surveys board area found.Vacant = Possible board area × Vacant board
+Surveys board area (found.Actions actions) = Over board area actions
+
+-- What is known of the places below some number, with one place more.
+abbrev pub joined : Found → Seen → Found
+joined found.Impossible s = found.Impossible
+joined found.Vacant seen.Untaken = found.Vacant
+joined found.Vacant (seen.Fits actions) = found.Actions actions
+joined found.Vacant seen.Misfit = found.Impossible
+joined (found.Actions known) seen.Untaken = found.Actions known
+joined (found.Actions known) (seen.Fits actions) = cond (eqb actions known) (found.Actions known) found.Impossible
+joined (found.Actions known) seen.Misfit = found.Impossible
+
+abbrev pub isImpossible : Found → Bool
+isImpossible found.Impossible = true
+isImpossible found.Vacant = false
+isImpossible (found.Actions known) = false
+
+-- Whether a rule over so many actions can join those on the board.
+abbrev pub admitted : Found → ℕ → Bool
+admitted found.Impossible actions = false
+admitted found.Vacant actions = true
+admitted (found.Actions known) actions = eqb known actions

@@ -1,0 +1,150 @@
+// An action on a board: denied by the lowest place that denies, or permitted, with every rule moved.
+use crate::Act;
+use crate::Acted;
+use crate::Board;
+use crate::Case;
+use crate::places::case_at;
+use crate::places::empty_board;
+use crate::places::place_bytes;
+use crate::places::with_case;
+use crate::survey::Found;
+use crate::survey::survey;
+use base::byte;
+ghost use mathlib.Core.Path.{_≡_};
+ghost use mathlib.Core.Bool.{cond};
+ghost use Prim.Native.Nat.{_<_, _^_};
+ghost use Rattle.board.specs.Places.{tableAt};
+ghost use Rattle.board.specs.Calls.{Acts, entryAt, denies as deniesCase, AllMoved, fulfilledBelow};
+ghost use Rattle.board.specs.Replies.{actReply};
+ghost use Rattle.board.specs.Steps.{Readable, Ready, Playable, Steps, Denies};
+
+// The lowest place that denies, if there is one.
+pub enum Denier {
+    At(usize),
+    Nobody,
+}
+
+// A rule after an action, and whether the action fulfils it.
+pub struct Step {
+    pub case: Case,
+    pub fulfils: bool,
+}
+
+// A board after a permitted action, and the places that the action fulfils, as a set of bits.
+pub struct Moved {
+    pub board: Board,
+    pub fulfilled: u8,
+}
+
+// The entry of an action in a row of the table at a place.
+fn entry(area: &[u8], place: usize, row: usize, actions: usize, action: usize) -> usize
+    requires { ⌜ Readable (now area) place row actions action ⌝ }
+    ensures { λ r. ⌜ r ≡ entryAt (tableAt (now (area .entry)) place) row action ⌝ }
+{
+    let bytes = place_bytes(area, place);
+    byte(bytes[8 + row * actions + action])
+}
+
+// Whether a place denies an action: an enforced rule whose entry is a trip.
+fn denies(case: Case, area: &[u8], place: usize, actions: usize, action: usize) -> bool
+    requires { ⌜ Ready (now area) place case actions action ⌝ }
+    ensures { λ r. ⌜ r ≡ deniesCase (tableAt (now (area .entry)) place) action case ⌝ }
+{
+    match case {
+        Case::Empty => false,
+        Case::Enforced(row) => entry(area, place, row, actions, action) == 255,
+        Case::Watched(_) => false,
+        Case::Fulfilled => false,
+    }
+}
+
+// The lowest place that denies an action: all are looked at, from the highest down.
+fn lowest_denier(board: Board, area: &[u8], actions: usize, action: usize) -> Denier
+    requires { ⌜ Playable board (now area) actions action ⌝ }
+    ensures { λ r. ⌜ Denies board (now (area .entry)) action r ⌝ }
+{
+    let mut found = Denier::Nobody;
+    let mut left = 8;
+    while 0 < left {
+        let place = left - 1;
+        if denies(case_at(board, place), area, place, actions, action) {
+            found = Denier::At(place);
+        }
+        left -= 1;
+    }
+    found
+}
+
+// A rule moved by a permitted action. A watched rule that trips is fulfilled, and stays so.
+fn move_rule(case: Case, area: &[u8], place: usize, actions: usize, action: usize) -> Step
+    requires { ⌜ Ready (now area) place case actions action ⌝ }
+    ensures { λ r. ⌜ Steps (tableAt (now (area .entry)) place) action case (r .case) (r .fulfils) ⌝ }
+{
+    match case {
+        Case::Empty => Step { case: Case::Empty, fulfils: false },
+        Case::Enforced(row) => {
+            let next = entry(area, place, row, actions, action);
+            Step { case: Case::Enforced(next), fulfils: false }
+        }
+        Case::Watched(row) => {
+            let next = entry(area, place, row, actions, action);
+            if next == 255 {
+                Step { case: Case::Fulfilled, fulfils: true }
+            } else {
+                Step { case: Case::Watched(next), fulfils: false }
+            }
+        }
+        Case::Fulfilled => Step { case: Case::Fulfilled, fulfils: false },
+    }
+}
+
+// A place in a set of places, where it is to be in.
+fn bit(on: bool, place: usize) -> u8
+    requires { ⌜ place < 8 ⌝ }
+    ensures { λ r. ⌜ r ≡ cond on (2 ^ place) 0 ⌝ }
+{
+    if on { 1u8 << place } else { 0 }
+}
+
+// Every rule moved by a permitted action.
+fn move_all(board: Board, area: &[u8], actions: usize, action: usize) -> Moved
+    requires { ⌜ Playable board (now area) actions action ⌝ }
+    ensures { λ r. ⌜ AllMoved board (now (area .entry)) action (r .board) × (r .fulfilled ≡ fulfilledBelow board (now (area .entry)) action 8) ⌝ }
+{
+    let mut next = empty_board();
+    let mut fulfilled = 0u8;
+    let mut i = 0;
+    while i < 8 {
+        let moved = move_rule(case_at(board, i), area, i, actions, action);
+        let case = moved.case;
+        next = with_case(next, i, case);
+        fulfilled = fulfilled + bit(moved.fulfils, i);
+        i += 1;
+    }
+    Moved { board: next, fulfilled }
+}
+
+// Permits or denies an action. A denied action moves no rule.
+pub fn action(board: Board, area: &[u8], action: usize) -> Acted
+    ensures { λ r. ⌜ Acts board (now (area .entry)) action (actReply (r .answer)) (r .board) ⌝ }
+{
+    if area.len() < 8256 {
+        return Acted { answer: Act::ShortArea, board };
+    }
+    match survey(board, area) {
+        Found::Impossible => Acted { answer: Act::Impossible, board },
+        Found::Vacant => Acted { answer: Act::EmptyBoard, board },
+        Found::Actions(actions) => {
+            if actions <= action {
+                return Acted { answer: Act::NoAction, board };
+            }
+            let denier = lowest_denier(board, area, actions, action);
+            let moved = move_all(board, area, actions, action);
+            let next = moved.board;
+            match denier {
+                Denier::At(place) => Acted { answer: Act::Denied(place), board },
+                Denier::Nobody => Acted { answer: Act::Permitted(moved.fulfilled), board: next },
+            }
+        }
+    }
+}

@@ -1,0 +1,102 @@
+// A new board, putting a table on it, and taking one off.
+use crate::Board;
+use crate::Case;
+use crate::Made;
+use crate::NewBoard;
+use crate::Put;
+use crate::PutOn;
+use crate::Take;
+use crate::TakenOff;
+use crate::places::case_at;
+use crate::places::clear_place;
+use crate::places::empty_board;
+use crate::places::taken;
+use crate::places::with_case;
+use crate::places::write_place;
+use crate::survey::admits;
+use crate::survey::impossible;
+use crate::survey::survey;
+use table::Loaded;
+use trace::Mode;
+ghost use mathlib.Core.Path.{_≡_};
+ghost use Rattle.table.specs.Answer.{modeNumber};
+ghost use Rattle.board.specs.Calls.{Makes, PutsOn, TakesOff, firstCase};
+ghost use Rattle.board.specs.Replies.{madeReply, putReply, takeReply};
+
+// Eight empty places and a zeroed area.
+pub fn new_board(area: &mut [u8]) -> NewBoard
+    ensures { λ r. ⌜ Makes (now (area .entry)) (madeReply (r .answer)) (r .board) (now (area .exit)) ⌝ }
+{
+    let board = empty_board();
+    if area.len() < 8256 {
+        return NewBoard { answer: Made::ShortArea, board };
+    }
+    base::clear(&mut area[..8256]);
+    NewBoard { answer: Made::Board, board }
+}
+
+// Empties a place.
+pub fn take_off(board: Board, area: &mut [u8], place: usize) -> TakenOff
+    ensures { λ r. ⌜ TakesOff board (now (area .entry)) place (takeReply (r .answer)) (r .board) (now (area .exit)) ⌝ }
+{
+    if area.len() < 8256 {
+        return TakenOff { answer: Take::ShortArea, board };
+    }
+    if 8 <= place {
+        return TakenOff { answer: Take::NoPlace, board };
+    }
+    if impossible(survey(board, area)) {
+        return TakenOff { answer: Take::Impossible, board };
+    }
+    if taken(case_at(board, place)) {
+        clear_place(area, place);
+        let next = with_case(board, place, Case::Empty);
+        TakenOff { answer: Take::Off, board: next }
+    } else {
+        TakenOff { answer: Take::EmptyPlace, board }
+    }
+}
+
+// The case that a table starts in, by its type.
+fn first_case(mode: Mode) -> Case
+    ensures { λ r. ⌜ r ≡ firstCase (modeNumber mode) ⌝ }
+{
+    match mode {
+        Mode::Enforced => Case::Enforced(0),
+        Mode::Watched => Case::Watched(0),
+    }
+}
+
+// Puts a table on an empty place, at row 0.
+pub fn put_on(board: Board, area: &mut [u8], place: usize, table: &[u8]) -> PutOn
+    ensures { λ r. ⌜ PutsOn board (now (area .entry)) place (now (table .entry)) (putReply (r .answer)) (r .board) (now (area .exit)) ⌝ }
+{
+    if area.len() < 8256 {
+        return PutOn { answer: Put::ShortArea, board };
+    }
+    if 8 <= place {
+        return PutOn { answer: Put::NoPlace, board };
+    }
+    let found = survey(board, area);
+    let cannot_be = impossible(found);
+    let on = taken(case_at(board, place));
+    if cannot_be {
+        return PutOn { answer: Put::Impossible, board };
+    }
+    if on {
+        return PutOn { answer: Put::Taken, board };
+    }
+    match table::load(table) {
+        Loaded::Malformed => PutOn { answer: Put::Malformed, board },
+        Loaded::NotCanonical => PutOn { answer: Put::NotCanonical, board },
+        Loaded::Table { mode, actions, rows: _ } => {
+            if admits(found, actions) {
+                write_place(area, place, table);
+                let next = with_case(board, place, first_case(mode));
+                PutOn { answer: Put::On, board: next }
+            } else {
+                PutOn { answer: Put::OtherActions, board }
+            }
+        }
+    }
+}
