@@ -82,11 +82,14 @@ module _ (bytes : List ℕ) (n : ℕ) (l : List ℕ) where
   sets-front : (i : ℕ) → i < n → getD (setsOf bytes n ++ drop n l) i 0 ≡ getD (setsOf bytes n) i 0
   sets-front i h = List·getD-append (setsOf bytes n) (drop n l) 0 i (omega (arith, length-sets bytes n))
 
-  pub set-next : setRead bytes (λ i. getD (setsOf bytes n ++ drop n l) i 0) (nodeOf bytes n) ≡ setRead bytes (λ i. getD (setsOf bytes n) i 0) (nodeOf bytes n)
+  set-next : setRead bytes (λ i. getD (setsOf bytes n ++ drop n l) i 0) (nodeOf bytes n) ≡ setRead bytes (λ i. getD (setsOf bytes n) i 0) (nodeOf bytes n)
   set-next = set-read-local bytes n (λ i. getD (setsOf bytes n ++ drop n l) i 0) (λ i. getD (setsOf bytes n) i 0) sets-front
 
-  pub sets-store : (x : ℕ) → n < length l → x ≡ setRead bytes (λ i. getD (setsOf bytes n ++ drop n l) i 0) (nodeOf bytes n)
-    → set (setsOf bytes n ++ drop n l) n x ≡ setsOf bytes (n + 1) ++ drop (n + 1) l
-  sets-store x h e =
-      rw (add-one n, drop-cons l n 0, e, set-next)
-      (set-at (setsOf bytes n) (getD l n 0) (drop (suc n) l) _ n (length-sets bytes n) ∙ sym (append-snoc (setsOf bytes n) _ (drop (suc n) l)))
+  pub sets-store : (s : List ℕ) (x : ℕ) → s ≡ setsOf bytes n ++ drop n l → n < length l → x ≡ setRead bytes (λ i. getD s i 0) (nodeOf bytes n)
+    → set s n x ≡ setsOf bytes (n + 1) ++ drop (n + 1) l
+  sets-store s x e h r =
+      ap (λ (t : List ℕ). set t n x) e
+      ∙ rw (add-one n, drop-cons l n 0)
+      (set-at (setsOf bytes n) (getD l n 0) (drop (suc n) l) x n (length-sets bytes n)
+      ∙ ap (λ (y : ℕ). setsOf bytes n ++ (y ∷ drop (suc n) l)) (r ∙ ap (λ (t : List ℕ). setRead bytes (λ i. getD t i 0) (nodeOf bytes n)) e ∙ set-next)
+      ∙ sym (append-snoc (setsOf bytes n) _ (drop (suc n) l)))

@@ -1,13 +1,14 @@
 -- `lower::proposition_set` meets its contract. The loop's invariant: the set has the actions before `a` that satisfy the proposition.
 -- Assumes nothing.
 use mathlib.Core.Path.{_≡_, refl, sym, ap, _∙_}
-use mathlib.Core.Logic.{⊎-elim}
+use mathlib.Core.Logic.{inl, inr}
 use mathlib.Core.List.{List}
 use Prim.Native.Nat.{ℕ, suc, _+_, _*_, _/_, _%_, _-_, _^_, _≤_, _<_}
 use native.Mathlib.Nat.{pow-suc}
 use native.Mathlib.Numerals.{add-one}
 use native.Mathlib.Omega.{arith}
 use lib.Pow.{pow-lt, pow-mono}
+use Rattle.base.specs.Word.{wordAt}
 use Rattle.sheet.specs.Sheet.{propositionsOf}
 use Rattle.lower.specs.Lowering.{propositionSet}
 use Rattle.lower.proofs.FormulaSets.{proposition-width, proposition-in, proposition-out}
@@ -38,7 +39,11 @@ module _ (c : tie.In-loop Inv-loop μ-loop) where
   fits : 2 ^ a + propositionSet bytes p a < 65536
   fits =
       let h : a < 16 = omega arith in
-      omega (arith, proposition-width bytes p a, pow-mono {suc a} {16} h, pow-suc 2 a)
+      omega (arith, proposition-width bytes p a, pow-mono {i = suc a} {j = 16} h, pow-suc 2 a)
+
+-- the word of the next action
+word-is : (c : tie.After-word Inv-loop μ-loop) → c .word .result ≡ propositionsOf (bytes (c .before)) (a (c .before))
+word-is c = c .word .ensures ∙ ap (λ (x : ℕ). wordAt (bytes (c .before)) (x + 2 * a (c .before))) (c .before .before .before .before .pre .0 .from)
 
 mul-word : tie.Need-mul-word Inv-loop μ-loop
 mul-word c = omega arith
@@ -62,10 +67,19 @@ loop-less : tie.Need-loop-less Inv-loop μ-loop
 loop-less c = omega arith
 
 loop-again : tie.Need-loop-again Inv-loop μ-loop
-loop-again c = ?
+loop-again c =
+    let t = c .before .before in
+    (omega arith,
+    rw (add-one (a t))
+    (elim (c .if1 .came) [
+      | inl i ↦ i .2 ∙ (omega (arith, i .1 .ensures, t .before .loop .inv .1)) ∙ sym (proposition-in (bytes t) (p t) (a t) (ap (λ (x : ℕ). x / 2 ^ p t % 2) (sym (word-is (c .before))) ∙ i .0 .taken))
+      | inr o ↦ o .1 ∙ t .before .loop .inv .1 ∙ sym (proposition-out (bytes t) (p t) (a t) (λ h. o .0 .left (ap (λ (x : ℕ). x / 2 ^ p t % 2) (word-is (c .before)) ∙ h)))
+    ]))
 
 returns : tie.Need-returns Inv-loop μ-loop
-returns c = ?
+returns c =
+    let e : c .before .loop .a ≡ c .before .before .before .args .actions = omega arith in
+    c .before .loop .inv .1 ∙ rw e
 
 pub proposition-set-spec : {M : Type 1} → statement M
 proposition-set-spec =
