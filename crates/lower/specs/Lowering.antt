@@ -3,7 +3,7 @@
 use mathlib.Core.Path.{_≡_}
 use mathlib.Core.Bool.{Bool, true, false, cond}
 use mathlib.Core.List.{List, [], _∷_, _++_}
-use Prim.Native.Nat.{ℕ, zero, suc, _+_, _-_, _^_, _≤_, _<_}
+use Prim.Native.Nat.{ℕ, zero, suc, _+_, _*_, _-_, _^_, _≤_, _<_}
 use lib.Bits.{bitAnd, bitOr}
 use lib.ListN.{length, getD}
 use Rattle.trace.specs.declared.Mode.{Mode}
@@ -11,8 +11,9 @@ use Rattle.trace.specs.declared.Mode.the-variants.{Enforced, Watched}
 use Rattle.policy.specs.Formula.{bit}
 use Rattle.policy.specs.Rule.{opening, filtered}
 use Rattle.policy.specs.Rule as P
-use Rattle.sheet.specs.Sheet.{actionCount, propositionsOf}
+use Rattle.sheet.specs.Sheet.{actionCount, actionsAt, nodesAt, propositionsOf}
 use Rattle.sheet.specs.Node.{nodeOf}
+use Rattle.sheet.specs.Judge.{NodesLaid}
 use Rattle.sheet.specs.declared.Node.{Node}
 use Rattle.sheet.specs.declared.Node.the-variants.{True, False, Proposition, Negation, Conjunction, Disjunction, Now, Holds, Count, Not, And, Or, Eventually, Always, BeforeMinus, BeforePlus, AfterMinus, AfterPlus, Fulfilling, Ignoring}
 use Rattle.sheet.specs.declared.NodeRead.{NodeRead}
@@ -106,10 +107,20 @@ pub data SameRule (actions : ℕ) : P.Rule ℕ → P.Rule ℕ → Type 0 where
   filters : (h g : ℕ → Bool) → ((a : ℕ) → a < actions → h a ≡ g a) → (p : ℕ) → SameRule actions (filtered h p) (filtered g p)
   equal : (r : P.Rule ℕ) → SameRule actions r r
 
+-- The action list stands where the header says, inside the sheet.
+pub record ActionsLaid (bytes : List ℕ) (actions actionsFrom : ℕ) : Type 0 where
+  pub count : actions ≡ actionCount bytes
+  pub from : actionsFrom ≡ actionsAt bytes
+  pub few : actions ≤ 16
+  pub inside : actionsFrom + 2 * actions ≤ length bytes
+
+-- The fields of node n start at `at`.
+pub record FieldsLaid (bytes : List ℕ) (n at : ℕ) : Type 0 where
+  pub from : at ≡ nodesAt bytes + 5 * n
+  pub inside : at + 4 < length bytes
+
 -- What is lent to the sets: a sheet whose areas are in place, and room for a set a node.
 pub record Settable (bytes : List ℕ) (actions nodes actionsFrom nodesFrom : ℕ) (sets : List ℕ) : Type 0 where
-  pub few-actions : actions ≤ 16
-  pub few-nodes : nodes ≤ 64
-  pub list : actionsFrom + (actions + actions) ≤ length bytes
-  pub nodes-in : nodesFrom + (nodes + nodes + nodes + nodes + nodes) ≤ length bytes
+  pub actions-laid : ActionsLaid bytes actions actionsFrom
+  pub nodes-laid : NodesLaid bytes nodes nodesFrom
   pub room : nodes ≤ length sets

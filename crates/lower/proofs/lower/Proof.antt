@@ -1,0 +1,120 @@
+-- `lower::lower` meets its contract.
+-- Assumes nothing.
+use mathlib.Core.Path.{ap}
+use borrow.Author.Needs.{needs}
+use Rattle.lower.specs.declared.Lowered.the-variants.{AsRule}
+use Rattle.lower.proofs.lower.Statement.{statement}
+use Rattle.lower.proofs.lower.Tie as tie
+
+returns : tie.Need-returns
+returns c = rw (c .enum-told .given .1)
+
+returns-2 : tie.Need-returns-2
+returns-2 c = rw (c .enum-told2 .given .1)
+
+returns-3 : tie.Need-returns-3
+returns-3 c = rw (c .enum-told3 .given .1)
+
+returns-4 : tie.Need-returns-4
+returns-4 c = rw (c .enum-told4 .given .1)
+
+returns-5 : tie.Need-returns-5
+returns-5 c = rw (c .enum-told5 .given .1)
+
+returns-6 : tie.Need-returns-6
+returns-6 c = rw (c .enum-told6 .given .1)
+
+returns-7 : tie.Need-returns-7
+returns-7 c = rw (c .before .before .node .given .1, c .set-at .ensures)
+
+returns-8 : tie.Need-returns-8
+returns-8 c = rw (c .before .before .node2 .given .1, c .set-at2 .ensures)
+
+returns-9 : tie.Need-returns-9
+returns-9 c = rw (c .before .node3 .given .1)
+
+returns-10 : tie.Need-returns-10
+returns-10 c = rw (c .before .node4 .given .1)
+
+returns-11 : tie.Need-returns-11
+returns-11 c = rw (c .before .before .before .node5 .given .1) (ap AsRule (rw (c .before .type-at .ensures) at (c .by-mode .ensures)))
+
+returns-12 : tie.Need-returns-12
+returns-12 c = rw (c .before .before .before .node6 .given .1) (ap AsRule (rw (c .before .type-at2 .ensures) at (c .by-mode2 .ensures)))
+
+returns-13 : tie.Need-returns-13
+returns-13 c = rw (c .before .node7 .given .1)
+
+returns-14 : tie.Need-returns-14
+returns-14 c = rw (c .before .node8 .given .1)
+
+returns-15 : tie.Need-returns-15
+returns-15 c = rw (c .before .node9 .given .1)
+
+returns-16 : tie.Need-returns-16
+returns-16 c = rw (c .before .node10 .given .1)
+
+returns-17 : tie.Need-returns-17
+returns-17 c = rw (c .before .node11 .given .1)
+
+returns-18 : tie.Need-returns-18
+returns-18 c = rw (c .before .node12 .given .1)
+
+returns-19 : tie.Need-returns-19
+returns-19 c = rw (c .before .node13 .given .1)
+
+returns-20 : tie.Need-returns-20
+returns-20 c = rw (c .before .before .node14 .given .1, c .set-at3 .ensures)
+
+pub lower-spec : {M : Type 1} → statement M
+lower-spec =
+    tie.close
+    (tie.spec
+    (λ c. search needs)
+    (λ c. search needs)
+    (λ c. search needs)
+    (λ c. search needs)
+    (λ c. search needs)
+    (λ c. search needs)
+    (λ c. search needs)
+    (λ c κs. search needs)
+    (λ c. search needs)
+    (λ c κs. search needs)
+    (λ c. search needs)
+    (λ c. search needs)
+    (λ c. search needs)
+    (λ c. search needs)
+    (λ c κs. search needs)
+    (λ c κs. search needs)
+    (λ c. search needs)
+    (λ c κs. search needs)
+    (λ c κs. search needs)
+    (λ c. search needs)
+    (λ c. search needs)
+    (λ c. search needs)
+    (λ c. search needs)
+    (λ c. search needs)
+    (λ c. search needs)
+    (λ c. search needs)
+    (λ c. search needs)
+    (λ c κs. search needs)
+    returns
+    returns-2
+    returns-3
+    returns-4
+    returns-5
+    returns-6
+    returns-7
+    returns-8
+    returns-9
+    returns-10
+    returns-11
+    returns-12
+    returns-13
+    returns-14
+    returns-15
+    returns-16
+    returns-17
+    returns-18
+    returns-19
+    returns-20)
