@@ -1,5 +1,6 @@
 -- `base::clear_numbers` meets its contract. The loop's invariant: zeros, and then what was there.
 -- Assumes nothing.
+use mathlib.Core.Path.{refl}
 use Prim.Native.Nat.{_-_}
 use native.Mathlib.Omega.{arith}
 use borrow.Author.Needs.{needs}
@@ -30,7 +31,7 @@ loop-less : tie.Need-loop-less Inv-loop μ-loop
 loop-less c = omega arith
 
 loop-again : tie.Need-loop-again Inv-loop μ-loop
-loop-again c = stored-more (c .before .loop .inv) (omega arith) (omega arith)
+loop-again c = stored-more (c .before .loop .inv) (omega arith) (omega arith) refl
 
 same-length : tie.Need-same-length Inv-loop μ-loop
 same-length c = omega arith

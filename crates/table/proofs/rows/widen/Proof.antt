@@ -1,6 +1,6 @@
 -- `table::rows::widen` meets its contract. The loop's invariant: `next` has the entries below k, and then what was there.
 -- Assumes nothing.
-use mathlib.Core.Path.{_∙_}
+use mathlib.Core.Path.{refl, _∙_}
 use Prim.Native.Nat.{_-_}
 use native.Mathlib.Omega.{arith}
 use borrow.Author.Needs.{needs}
@@ -38,7 +38,7 @@ loop-less : tie.Need-loop-less Inv-loop μ-loop
 loop-less c = omega arith
 
 loop-again : tie.Need-loop-again Inv-loop μ-loop
-loop-again c = stored-more (c .before .before .loop .inv) (omega arith) (omega (arith, c .before .before .before .pre))
+loop-again c = stored-more (c .before .before .loop .inv) (omega arith) (omega (arith, c .before .before .before .pre)) refl
 
 same-length : tie.Need-same-length Inv-loop μ-loop
 same-length c = omega arith
