@@ -23,7 +23,7 @@ module _ (actions : ℕ) (step : Step ℕ) (start limit : ℕ) (values next : Li
   explored-over r e x = subst (λ (y : Exploration). ExploresTo actions step start limit y values next) e x
 
   pub explored-states : (r : Exploration) (count : ℕ) → r ≡ States count → ExploresTo actions step start limit r values next
-    → ExploresTo actions step start limit (States count) values next
+      → ExploresTo actions step start limit (States count) values next
   explored-states r count e x = subst (λ (y : Exploration). ExploresTo actions step start limit y values next) e x
 
 -- a minimising that answered so
@@ -32,7 +32,7 @@ module _ (states actions : ℕ) (next : List ℕ) (limit : ℕ) (before behind :
   minimised-over r e x = subst (λ (y : Refined). MinimisesTo states actions next limit y before behind) e x
 
   pub minimised-rows : (r : Refined) (rows : ℕ) → r ≡ Classes rows → MinimisesTo states actions next limit r before behind
-    → Written actions (transition 65535 actions next) 0 limit rows before behind
+      → Written actions (transition 65535 actions next) 0 limit rows before behind
   minimised-rows r rows e x = subst (λ (y : Refined). MinimisesTo states actions next limit y before behind) e x
 
 module _ (actions : ℕ) (step : Step ℕ) (start count : ℕ) (values entries : List ℕ) (ex : Explored actions step start 65535 count values entries) (few : count ≤ 65535) where
@@ -55,7 +55,7 @@ module _ (actions : ℕ) (step : Step ℕ) (start count : ℕ) (values entries :
 
   -- the rows are the rule's
   pub written-for : (limit rows : ℕ) (before behind : List ℕ) → Written actions (transition 65535 actions entries) 0 limit rows before behind
-    → Written actions step start limit rows before behind
+      → Written actions step start limit rows before behind
   written-for limit rows before behind w =
       record {
         entries = w .entries;

@@ -29,8 +29,8 @@ module _ (states actions : ℕ) (next : List ℕ) (limit count : ℕ) (classes f
       }
 
   pub written : Numbered 65535 states actions next → limit ≤ 64 → length classes ≡ states → (before behind : List ℕ)
-    → behind ≡ quotientRows actions count next classes firsts ++ drop (count * actions) before
-    → Written actions (transition 65535 actions next) 0 limit count before behind
+      → behind ≡ quotientRows actions count next classes firsts ++ drop (count * actions) before
+      → Written actions (transition 65535 actions next) 0 limit count before behind
   written nu small sized before behind e =
       record {
         entries = quotientRows actions count next classes firsts;

@@ -13,7 +13,7 @@ use Rattle.lower.specs.Lowering.{SameRule, opens, filters, equal}
 
 -- two machines that move alike under every action of the list read alike
 pub run-agree : {X : Type 0} (actions : ℕ) (f g : Step X) → ((v : X) (a : ℕ) → a < actions → f v a ≡ g v a)
-  → (w : List ℕ) → Sequence actions w → (m : Move X) → run f m w ≡ run g m w
+    → (w : List ℕ) → Sequence actions w → (m : Move X) → run f m w ≡ run g m w
 run-agree actions f g e [] p m = refl
 run-agree actions f g e (a ∷ w) p m = run-agree actions f g e w (p .1) (after m (λ v. f v a)) ∙ ap (λ x. run g x w) (moved m)
   where
@@ -27,8 +27,8 @@ opening-agree h g spent a e = refl
 
 -- rules that say the same of the actions go through the same numbers
 pub same-codes : (actions : ℕ) (f : ℕ → Part) (r s : Rule ℕ) → SameRule actions r s → (w : List ℕ) → Sequence actions w
-  → encodeMove (onParts f s) (run (stepOf (onParts f s)) (go (start (onParts f s))) w)
-  ≡ encodeMove (onParts f r) (run (stepOf (onParts f r)) (go (start (onParts f r))) w)
+    → encodeMove (onParts f s) (run (stepOf (onParts f s)) (go (start (onParts f s))) w)
+    ≡ encodeMove (onParts f r) (run (stepOf (onParts f r)) (go (start (onParts f r))) w)
 same-codes actions f r s (opens h g e) w p =
     ap (encodeMove (opening g)) (run-agree actions (stepOf (opening g)) (stepOf (opening h)) (λ v a l. opening-agree g h v a (sym (e a l))) w p (go fresh)) ∙ recode (run (stepOf (opening h)) (go fresh) w)
   where

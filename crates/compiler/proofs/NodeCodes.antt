@@ -127,8 +127,8 @@ module _ (bytes : List ℕ) (types : List TypedNode) (facts : SheetFacts bytes t
         by (no g) = absurd (g h)
 
     many : (R : List ℕ → List ℕ → Type 0)
-      → ((c d : ℕ) → c < d → d ≤ limit → (r : Reached A step first (pick c)) (s : Reached A step first (pick d)) → R (r .word) (s .word) → ⊥)
-      → Many bytes n limit R
+        → ((c d : ℕ) → c < d → d ≤ limit → (r : Reached A step first (pick c)) (s : Reached A step first (pick d)) → R (r .word) (s .word) → ⊥)
+        → Many bytes n limit R
     many R apart =
         record {
           pick = words;

@@ -54,17 +54,17 @@ pub data Compiles (bytes : List ℕ) (valueLimit rowLimit : ℕ) : Answer → Li
   faulted : (f : Fault) → judge bytes ≡ faulty f → Compiles bytes valueLimit rowLimit (refused (numberOf f) (spotOf f)) []
   -- 8 at node n: every earlier node is inside both limits, and more values than the limit occur
   over-values : (types : List TypedNode) → SoundSheet bytes types → (tables : Tables) (n : ℕ) → n < nodeCount bytes
-    → BuiltBefore bytes types tables valueLimit rowLimit n → (mode : Mode) → PolicyNode types n mode
-    → OverValues bytes tables n valueLimit → Compiles bytes valueLimit rowLimit (refused 8 n) []
+      → BuiltBefore bytes types tables valueLimit rowLimit n → (mode : Mode) → PolicyNode types n mode
+      → OverValues bytes tables n valueLimit → Compiles bytes valueLimit rowLimit (refused 8 n) []
   -- 9 at node n: as 8, with at most as many values, and more rows than the limit are needed
   over-rows : (types : List TypedNode) → SoundSheet bytes types → (tables : Tables) (n : ℕ) → n < nodeCount bytes
-    → BuiltBefore bytes types tables valueLimit rowLimit n → (mode : Mode) → PolicyNode types n mode
-    → (OverValues bytes tables n valueLimit → ⊥) → OverRows bytes n rowLimit → Compiles bytes valueLimit rowLimit (refused 9 n) []
+      → BuiltBefore bytes types tables valueLimit rowLimit n → (mode : Mode) → PolicyNode types n mode
+      → (OverValues bytes tables n valueLimit → ⊥) → OverRows bytes n rowLimit → Compiles bytes valueLimit rowLimit (refused 9 n) []
   -- a table: every node is inside both limits; the rows are those of the last node
   compiled : (types : List TypedNode) → SoundSheet bytes types → (tables : Tables)
-    → BuiltBefore bytes types tables valueLimit rowLimit (nodeCount bytes) → (mode : Mode) → PolicyNode types (nodeCount bytes - 1) mode
-    → (b : Built bytes tables valueLimit rowLimit (nodeCount bytes - 1))
-    → Compiles bytes valueLimit rowLimit (table (modeNumber mode) (actionCount bytes) (b .rows))
+      → BuiltBefore bytes types tables valueLimit rowLimit (nodeCount bytes) → (mode : Mode) → PolicyNode types (nodeCount bytes - 1) mode
+      → (b : Built bytes tables valueLimit rowLimit (nodeCount bytes - 1))
+      → Compiles bytes valueLimit rowLimit (table (modeNumber mode) (actionCount bytes) (b .rows))
       (tableBytes (modeNumber mode) (actionCount bytes) (b .rows) (tables (nodeCount bytes - 1)))
 
 -- The lent areas are long enough.
@@ -77,5 +77,5 @@ pub record Areas (out work values : List ℕ) : Type 0 where
 pub data CompilesInto (bytes out work values : List ℕ) : Answer → List ℕ → List ℕ → List ℕ → Type 0 where
   short : (Areas out work values → ⊥) → CompilesInto bytes out work values (refused 14 0) out work values
   compiles : Areas out work values → (answer : Answer) (written : List ℕ) → Compiles bytes 1024 64 answer written
-    → CompilesInto bytes out work values answer (written ++ drop (length written) out)
+      → CompilesInto bytes out work values answer (written ++ drop (length written) out)
       (replicate 65536 0 ++ drop 65536 work) (replicate 1024 0 ++ drop 1024 values)

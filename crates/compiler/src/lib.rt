@@ -4,7 +4,11 @@ use trace::Mode;
 
 // What compiling answers: a table, or a refusal.
 pub enum Compiled {
-    Table { mode: Mode, actions: usize, rows: usize },
+    Table {
+        mode: Mode,
+        actions: usize,
+        rows: usize,
+    },
     ShortArea,
     Faulty(Fault),
     TooManyValues(usize),

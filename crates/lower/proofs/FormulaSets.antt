@@ -86,7 +86,7 @@ module _ (bytes : List ℕ) (n : ℕ) (l : List ℕ) where
   set-next = set-read-local bytes n (λ i. getD (setsOf bytes n ++ drop n l) i 0) (λ i. getD (setsOf bytes n) i 0) sets-front
 
   pub sets-store : (s : List ℕ) (x : ℕ) → s ≡ setsOf bytes n ++ drop n l → n < length l → x ≡ setRead bytes (λ i. getD s i 0) (nodeOf bytes n)
-    → set s n x ≡ setsOf bytes (n + 1) ++ drop (n + 1) l
+      → set s n x ≡ setsOf bytes (n + 1) ++ drop (n + 1) l
   sets-store s x e h r =
       ap (λ (t : List ℕ). set t n x) e
       ∙ rw (add-one n, drop-cons l n 0)

@@ -52,11 +52,7 @@ fn proposition_set(bytes: &[u8], from: usize, actions: usize, p: usize) -> u16
 fn set_at(sets: &[u16], i: usize) -> u16
     ensures { λ r. ⌜ r ≡ getD (now (sets .entry)) i 0 ⌝ }
 {
-    if i < sets.len() {
-        sets[i]
-    } else {
-        0
-    }
+    if i < sets.len() { sets[i] } else { 0 }
 }
 
 // The set of a node, from those of the nodes before it.
@@ -103,7 +99,14 @@ fn node_set(bytes: &[u8], at: usize, n: usize, from: usize, actions: usize, sets
 }
 
 // The sets of the nodes, at the front of the list. The action list stands at `from`, the nodes at `start`.
-pub fn formula_sets(bytes: &[u8], actions: usize, nodes: usize, from: usize, start: usize, sets: &mut [u16])
+pub fn formula_sets(
+    bytes: &[u8],
+    actions: usize,
+    nodes: usize,
+    from: usize,
+    start: usize,
+    sets: &mut [u16],
+)
     requires { ⌜ Settable (now bytes) actions nodes from start (now sets) ⌝ }
     ensures { λ _. ⌜ now (sets .exit) ≡ setsOf (now (bytes .entry)) nodes ++ drop nodes (now (sets .entry)) ⌝ }
 {
@@ -142,8 +145,16 @@ pub fn lower(node: Node, types: [TypedNode; 64], sets: &[u16]) -> Lowered
         Node::Holds(a) => Lowered::AsRule(Rule::Opening(65535 - set_at(sets, a))),
         Node::Count(k) => Lowered::AsRule(Rule::Counting(k)),
         Node::Not(a) => Lowered::AsRule(Rule::Same(a)),
-        Node::And(a, b) => Lowered::AsRule(by_mode(type_at(types, a), Rule::Both(a, b), Rule::Either(a, b))),
-        Node::Or(a, b) => Lowered::AsRule(by_mode(type_at(types, a), Rule::Either(a, b), Rule::Both(a, b))),
+        Node::And(a, b) => Lowered::AsRule(by_mode(
+            type_at(types, a),
+            Rule::Both(a, b),
+            Rule::Either(a, b),
+        )),
+        Node::Or(a, b) => Lowered::AsRule(by_mode(
+            type_at(types, a),
+            Rule::Either(a, b),
+            Rule::Both(a, b),
+        )),
         Node::Eventually(a) => Lowered::AsRule(Rule::Copied(a)),
         Node::Always(a) => Lowered::AsRule(Rule::Copied(a)),
         Node::BeforeMinus(a, b) => Lowered::AsRule(Rule::Until(a, b)),

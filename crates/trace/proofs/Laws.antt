@@ -33,8 +33,8 @@ Related R (go u) (go v) = R u v
 module _ {X Y : Type 0} (actions : ℕ) (f : Step X) (g : Step Y) where
   -- moves behind which every sequence trips in both or in neither
   related : (m : Move X) (n : Move Y)
-    → ((w : List ℕ) → Sequence actions w → tripped (run f m w) ≡ tripped (run g n w))
-    → Related (λ u v. Alike actions f u g v) m n
+      → ((w : List ℕ) → Sequence actions w → tripped (run f m w) ≡ tripped (run g n w))
+      → Related (λ u v. Alike actions f u g v) m n
   related trip trip h = tt
   related trip (go v) h = not-both (h [] tt)
   related (go u) trip h = not-both (sym (h [] tt))
@@ -73,5 +73,5 @@ module _ (actions : ℕ) where
   alike-sym e = record { same = λ w p. sym (e .same w p) }
 
   pub alike-trans : {Z X Y : Type 0} {f : Step Z} {t : Z} {g : Step X} {u : X} {h : Step Y} {v : Y}
-    → Alike actions f t g u → Alike actions g u h v → Alike actions f t h v
+      → Alike actions f t g u → Alike actions g u h v → Alike actions f t h v
   alike-trans d e = record { same = λ w p. d .same w p ∙ e .same w p }

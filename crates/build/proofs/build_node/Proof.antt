@@ -86,7 +86,7 @@ module _ (c : tie.After-explored) where
 
   -- what minimising is lent
   lent : Minimisable (entry at .args .actions) (entry at .args .row-limit) (take (states * entry at .args .actions) (next at))
-    (take states (entry at .args .classes .now)) (take states (entry at .args .other .now)) (entry at .args .firsts .now) (entry at .args .rows .now)
+      (take states (entry at .args .classes .now)) (take states (entry at .args .other .now)) (entry at .args .firsts .now) (entry at .args .rows .now)
   lent =
       let z = entry at in
       let all = length-take-le states (z .args .classes .now) in-classes in
@@ -169,7 +169,7 @@ module _ (c : tie.After-minimise) where
   machine = take (states explored * start .args .actions) (next (at explored))
 
   minimised : MinimisesTo (states explored) (start .args .actions) machine (start .args .row-limit) (c .minimise .result) (start .args .rows .now)
-    (c .minimise .last .1 .1 .1 .1 .1 .1 .0)
+      (c .minimise .last .1 .1 .1 .1 .1 .1 .0)
   minimised = subst (λ (n : ℕ). MinimisesTo n (start .args .actions) machine (start .args .row-limit) (c .minimise .result) (start .args .rows .now) (c .minimise .last .1 .1 .1 .1 .1 .1 .0)) (length-take-le (states explored) (start .args .classes .now) (in-classes explored)) (c .minimise .ensures)
 
   marked : states explored ≤ 65535

@@ -51,8 +51,8 @@ module _ (c : tie.After-refined) where
   refined = c .before .before .before .before .before .before .before .before
 
   counted : (c .refined .given .0 .0 ≤ entry refined .args .limit)
-    × Partition (AlikeStates 65535 (entry refined .args .actions) (entry refined .args .next .now)) (length (entry refined .args .classes .now)) (c .refined .given .0 .0)
-    (classes refined) (firsts refined)
+      × Partition (AlikeStates 65535 (entry refined .args .actions) (entry refined .args .next .now)) (length (entry refined .args .classes .now)) (c .refined .given .0 .0)
+      (classes refined) (firsts refined)
   counted = split-classes _ _ _ _ _ _ _ (c .refined .given .1) (splits refined)
 
 returns : tie.Need-returns

@@ -39,10 +39,11 @@ slice-write-sets c = omega arith
 loop-again : tie.Need-loop-again Inv-loop μ-loop
 loop-again c =
     let start = c .before .before .before .before .before .before in
-    let turn = c .before .before .before in
-    (omega arith,
-    length-set (turn .loop .sets) (turn .loop .n) (c .node-set .result) ∙ turn .loop .inv .1,
-    sets-store (start .args .bytes .now) (turn .loop .n) (start .args .sets .now) (turn .loop .sets) (c .node-set .result) (turn .loop .inv .2) (omega arith) (c .node-set .ensures))
+    let turn = c .before .before .before in (
+      omega arith,
+      length-set (turn .loop .sets) (turn .loop .n) (c .node-set .result) ∙ turn .loop .inv .1,
+      sets-store (start .args .bytes .now) (turn .loop .n) (start .args .sets .now) (turn .loop .sets) (c .node-set .result) (turn .loop .inv .2) (omega arith) (c .node-set .ensures),
+    )
 
 same-length : tie.Need-same-length Inv-loop μ-loop
 same-length c = c .before .loop .inv .1

@@ -28,15 +28,16 @@ module _ (c : tie.After-read-node) where
   read-is = c .read-node .ensures ∙ node-at bytes n _ (c .before .before .before .pre .1 .from)
 
   set-is : {r : NodeRead} → c .read-node .result ≡ r
-    → setRead bytes (λ i. getD sets i 0) (nodeOf bytes n) ≡ setRead bytes (λ i. getD sets i 0) r
+      → setRead bytes (λ i. getD sets i 0) (nodeOf bytes n) ≡ setRead bytes (λ i. getD sets i 0) r
   set-is e = ap (setRead bytes (λ i. getD sets i 0)) (sym read-is ∙ e)
 
 formula-set-requires : tie.Need-formula-set-requires
 formula-set-requires c κs =
-    let a = c .before .before .before in
-    (a .before .before .before .pre .0,
-    parts-below (n a) (field (bytes a) (n a) 0) (field (bytes a) (n a) 1) (field (bytes a) (n a) 2) (field (bytes a) (n a) 3) (field (bytes a) (n a) 4) (c .before .node .given .0 .0)
-    (sym (read-is a) ∙ c .before .node .given .1) .1)
+    let a = c .before .before .before in (
+      a .before .before .before .pre .0,
+      parts-below (n a) (field (bytes a) (n a) 0) (field (bytes a) (n a) 1) (field (bytes a) (n a) 2) (field (bytes a) (n a) 3) (field (bytes a) (n a) 4) (c .before .node .given .0 .0)
+          (sym (read-is a) ∙ c .before .node .given .1) .1,
+    )
 
 returns : tie.Need-returns
 returns c = c .formula-set .ensures ∙ sym (set-is (c .before .before .before .before) (c .before .before .node .given .1))

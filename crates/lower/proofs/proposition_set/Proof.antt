@@ -68,13 +68,14 @@ loop-less c = omega arith
 
 loop-again : tie.Need-loop-again Inv-loop μ-loop
 loop-again c =
-    let t = c .before .before in
-    (omega arith,
-    rw (add-one (a t))
-    (elim (c .if1 .came) [
-      | inl i ↦ i .2 ∙ (omega (arith, i .1 .ensures, t .before .loop .inv .1)) ∙ sym (proposition-in (bytes t) (p t) (a t) (ap (λ (x : ℕ). x / 2 ^ p t % 2) (sym (word-is (c .before))) ∙ i .0 .taken))
-      | inr o ↦ o .1 ∙ t .before .loop .inv .1 ∙ sym (proposition-out (bytes t) (p t) (a t) (λ h. o .0 .left (ap (λ (x : ℕ). x / 2 ^ p t % 2) (word-is (c .before)) ∙ h)))
-    ]))
+    let t = c .before .before in (
+      omega arith,
+      rw (add-one (a t))
+          (elim (c .if1 .came) [
+            | inl i ↦ i .2 ∙ (omega (arith, i .1 .ensures, t .before .loop .inv .1)) ∙ sym (proposition-in (bytes t) (p t) (a t) (ap (λ (x : ℕ). x / 2 ^ p t % 2) (sym (word-is (c .before))) ∙ i .0 .taken))
+            | inr o ↦ o .1 ∙ t .before .loop .inv .1 ∙ sym (proposition-out (bytes t) (p t) (a t) (λ h. o .0 .left (ap (λ (x : ℕ). x / 2 ^ p t % 2) (word-is (c .before)) ∙ h)))
+          ]),
+    )
 
 returns : tie.Need-returns Inv-loop μ-loop
 returns c =
