@@ -4,3 +4,4 @@ pub mod Calls
 pub mod Replies
 pub mod Survey
 pub mod Steps
+pub mod Targets
