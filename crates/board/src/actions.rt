@@ -25,10 +25,10 @@ pub enum Denier {
     Nobody,
 }
 
-// A rule after an action, and whether the action fulfils it.
+// A rule after an action, and whether it is a watched one that the action trips, and so fulfils.
 pub struct Step {
     pub case: Case,
-    pub fulfils: bool,
+    pub trips: bool,
 }
 
 // A board after a permitted action, and the places that the action fulfils, as a set of bits.
@@ -79,18 +79,15 @@ fn lowest_denier(board: Board, area: &[u8], actions: usize, action: usize) -> De
 // A rule moved by a permitted action. A watched rule that trips is fulfilled, and stays so.
 fn move_rule(case: Case, area: &[u8], place: usize, actions: usize, action: usize) -> Step
     requires { ⌜ Ready (now area) place case actions action ⌝ }
-    ensures { λ r. ⌜ Steps (tableAt (now (area .entry)) place) action case (r .case) (r .fulfils) ⌝ }
+    ensures { λ r. ⌜ Steps (tableAt (now (area .entry)) place) action case (r .case) (r .trips) ⌝ }
 {
     match case {
-        Case::Empty => Step {
-            case: Case::Empty,
-            fulfils: false,
-        },
+        Case::Empty => Step { case, trips: false },
         Case::Enforced(row) => {
             let next = entry(area, place, row, actions, action);
             Step {
                 case: Case::Enforced(next),
-                fulfils: false,
+                trips: false,
             }
         }
         Case::Watched(row) => {
@@ -98,19 +95,16 @@ fn move_rule(case: Case, area: &[u8], place: usize, actions: usize, action: usiz
             if next == 255 {
                 Step {
                     case: Case::Fulfilled,
-                    fulfils: true,
+                    trips: true,
                 }
             } else {
                 Step {
                     case: Case::Watched(next),
-                    fulfils: false,
+                    trips: false,
                 }
             }
         }
-        Case::Fulfilled => Step {
-            case: Case::Fulfilled,
-            fulfils: false,
-        },
+        Case::Fulfilled => Step { case, trips: false },
     }
 }
 
@@ -134,7 +128,7 @@ fn move_all(board: Board, area: &[u8], actions: usize, action: usize) -> Moved
         let moved = move_rule(case_at(board, i), area, i, actions, action);
         let case = moved.case;
         next = with_case(next, i, case);
-        fulfilled = fulfilled + bit(moved.fulfils, i);
+        fulfilled = fulfilled + bit(moved.trips, i);
         i += 1;
     }
     Moved {
