@@ -91,8 +91,8 @@ module _ (board : Board) (area : List ℕ) where
   same-actions Vacant actions s a = λ i h t. not-both (sym t ∙ s .1 i h)
   same-actions (Actions known) actions s a = λ i h t. s .same i h t ∙ eqb-true known actions a
 
-  pub other-actions : (f : Found) (actions : ℕ) → Surveys board area f → isImpossible f ≡ false → admitted f actions ≡ false → SameActions board area actions → ⊥
-  other-actions Impossible actions s e a = not-both e
-  other-actions Vacant actions s e a = not-both a
-  other-actions (Actions known) actions s e a =
+  pub other-actions : (f : Found) (actions : ℕ) → Surveys board area f → Possible board area → admitted f actions ≡ false → SameActions board area actions → ⊥
+  other-actions Impossible actions s p a = absurd (s p)
+  other-actions Vacant actions s p a = not-both a
+  other-actions (Actions known) actions s p a =
       λ h. eqb-false known actions a (sym (s .same (s .place) (s .below) (s .on)) ∙ h (s .place) (s .below) (s .on))

@@ -35,8 +35,8 @@ module _ (a e : ℕ) (l bytes : List ℕ) (size : a + length bytes ≡ e) (fits 
 
   -- and from e to t with zeros
   module _ (t : ℕ) (later : e ≤ t) (inside : t ≤ length l) (x y : List ℕ)
-    (copied : x ≡ bytes ++ drop (length bytes) (midOf a (e - a) l))
-    (cleared : y ≡ replicate (length (midOf e (t - e) (putMid a (e - a) l x))) 0) where
+      (copied : x ≡ bytes ++ drop (length bytes) (midOf a (e - a) l))
+      (cleared : y ≡ replicate (length (midOf e (t - e) (putMid a (e - a) l x))) 0) where
     whole : putMid a (e - a) l x ≡ take a l ++ (bytes ++ drop e l)
     whole =
         put-part a e l x (omega arith)
@@ -56,7 +56,7 @@ pub written-part : (a w : ℕ) (l bytes x y : List ℕ) → a + w ≤ length l �
     → x ≡ bytes ++ drop (length bytes) (midOf a (a + length bytes - a) l)
     → y ≡ replicate (length (midOf (a + length bytes) (a + w - (a + length bytes)) (putMid a (a + length bytes - a) l x))) 0
     → putMid (a + length bytes) (a + w - (a + length bytes)) (putMid a (a + length bytes - a) l x) y
-      ≡ take a l ++ ((bytes ++ replicate (w - length bytes) 0) ++ drop (a + w) l)
+    ≡ take a l ++ ((bytes ++ replicate (w - length bytes) 0) ++ drop (a + w) l)
 written-part a w l bytes x y fits few copied cleared =
     let e : a + w - (a + length bytes) ≡ w - length bytes = omega arith in
     copied-cleared a (a + length bytes) l bytes refl (omega arith) (a + w) (omega arith) fits x y copied cleared

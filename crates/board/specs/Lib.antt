@@ -5,3 +5,4 @@ pub mod History
 pub mod Replies
 pub mod Survey
 pub mod Steps
+pub mod Targets

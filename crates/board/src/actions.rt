@@ -14,8 +14,9 @@ ghost use mathlib.Core.Path.{_≡_};
 ghost use mathlib.Core.Bool.{cond};
 ghost use Prim.Native.Nat.{_<_, _^_};
 ghost use Rattle.board.specs.Places.{tableAt};
-ghost use Rattle.board.specs.Calls.{Acts, entryAt, denies as deniesCase, AllMoved, fulfilledBelow};
+ghost use Rattle.board.specs.Calls.{Whole, Acts, entryAt, denies as deniesCase, AllMoved, fulfilledBelow};
 ghost use Rattle.board.specs.Replies.{actReply};
+ghost use Rattle.board.specs.Survey.{Over};
 ghost use Rattle.board.specs.Steps.{Readable, Ready, Playable, Steps, Denies};
 
 // The lowest place that denies, if there is one.
@@ -24,10 +25,10 @@ pub enum Denier {
     Nobody,
 }
 
-// A rule after an action, and whether the action fulfils it.
+// A rule after an action, and whether it is a watched one that the action trips, and so fulfils.
 pub struct Step {
     pub case: Case,
-    pub fulfils: bool,
+    pub trips: bool,
 }
 
 // A board after a permitted action, and the places that the action fulfils, as a set of bits.
@@ -78,23 +79,32 @@ fn lowest_denier(board: Board, area: &[u8], actions: usize, action: usize) -> De
 // A rule moved by a permitted action. A watched rule that trips is fulfilled, and stays so.
 fn move_rule(case: Case, area: &[u8], place: usize, actions: usize, action: usize) -> Step
     requires { ⌜ Ready (now area) place case actions action ⌝ }
-    ensures { λ r. ⌜ Steps (tableAt (now (area .entry)) place) action case (r .case) (r .fulfils) ⌝ }
+    ensures { λ r. ⌜ Steps (tableAt (now (area .entry)) place) action case (r .case) (r .trips) ⌝ }
 {
     match case {
-        Case::Empty => Step { case: Case::Empty, fulfils: false },
+        Case::Empty => Step { case, trips: false },
         Case::Enforced(row) => {
             let next = entry(area, place, row, actions, action);
-            Step { case: Case::Enforced(next), fulfils: false }
+            Step {
+                case: Case::Enforced(next),
+                trips: false,
+            }
         }
         Case::Watched(row) => {
             let next = entry(area, place, row, actions, action);
             if next == 255 {
-                Step { case: Case::Fulfilled, fulfils: true }
+                Step {
+                    case: Case::Fulfilled,
+                    trips: true,
+                }
             } else {
-                Step { case: Case::Watched(next), fulfils: false }
+                Step {
+                    case: Case::Watched(next),
+                    trips: false,
+                }
             }
         }
-        Case::Fulfilled => Step { case: Case::Fulfilled, fulfils: false },
+        Case::Fulfilled => Step { case, trips: false },
     }
 }
 
@@ -118,33 +128,60 @@ fn move_all(board: Board, area: &[u8], actions: usize, action: usize) -> Moved
         let moved = move_rule(case_at(board, i), area, i, actions, action);
         let case = moved.case;
         next = with_case(next, i, case);
-        fulfilled = fulfilled + bit(moved.fulfils, i);
+        fulfilled = fulfilled + bit(moved.trips, i);
         i += 1;
     }
-    Moved { board: next, fulfilled }
+    Moved {
+        board: next,
+        fulfilled,
+    }
 }
 
-// Permits or denies an action. A denied action moves no rule.
+// An action on a board whose rules are over so many actions. A denied action moves no rule.
+fn act(board: Board, area: &[u8], actions: usize, action: usize) -> Acted
+    requires { ⌜ Whole (now area) × Over board (now area) actions ⌝ }
+    ensures { λ r. ⌜ Acts board (now (area .entry)) action (actReply (r .answer)) (r .board) ⌝ }
+{
+    if actions <= action {
+        return Acted {
+            answer: Act::NoAction,
+            board,
+        };
+    }
+    let denier = lowest_denier(board, area, actions, action);
+    let moved = move_all(board, area, actions, action);
+    let next = moved.board;
+    match denier {
+        Denier::At(place) => Acted {
+            answer: Act::Denied(place),
+            board,
+        },
+        Denier::Nobody => Acted {
+            answer: Act::Permitted(moved.fulfilled),
+            board: next,
+        },
+    }
+}
+
+// Permits or denies an action.
 pub fn action(board: Board, area: &[u8], action: usize) -> Acted
     ensures { λ r. ⌜ Acts board (now (area .entry)) action (actReply (r .answer)) (r .board) ⌝ }
 {
     if area.len() < 8256 {
-        return Acted { answer: Act::ShortArea, board };
+        return Acted {
+            answer: Act::ShortArea,
+            board,
+        };
     }
     match survey(board, area) {
-        Found::Impossible => Acted { answer: Act::Impossible, board },
-        Found::Vacant => Acted { answer: Act::EmptyBoard, board },
-        Found::Actions(actions) => {
-            if actions <= action {
-                return Acted { answer: Act::NoAction, board };
-            }
-            let denier = lowest_denier(board, area, actions, action);
-            let moved = move_all(board, area, actions, action);
-            let next = moved.board;
-            match denier {
-                Denier::At(place) => Acted { answer: Act::Denied(place), board },
-                Denier::Nobody => Acted { answer: Act::Permitted(moved.fulfilled), board: next },
-            }
-        }
+        Found::Impossible => Acted {
+            answer: Act::Impossible,
+            board,
+        },
+        Found::Vacant => Acted {
+            answer: Act::EmptyBoard,
+            board,
+        },
+        Found::Actions(actions) => act(board, area, actions, action),
     }
 }

@@ -13,6 +13,7 @@ use crate::places::empty_board;
 use crate::places::taken;
 use crate::places::with_case;
 use crate::places::write_place;
+use crate::survey::Found;
 use crate::survey::admits;
 use crate::survey::impossible;
 use crate::survey::survey;
@@ -22,6 +23,16 @@ ghost use mathlib.Core.Path.{_≡_};
 ghost use Rattle.table.specs.Answer.{modeNumber};
 ghost use Rattle.board.specs.Calls.{Makes, PutsOn, TakesOff, firstCase};
 ghost use Rattle.board.specs.Replies.{madeReply, putReply, takeReply};
+ghost use Rattle.board.specs.Targets.{EmptyTarget, Looks};
+
+// What a call finds at the place that it names, in the order 14, 13, 25.
+pub enum Target {
+    ShortArea,
+    NoPlace,
+    Impossible,
+    Taken,
+    Empty(Found),
+}
 
 // Eight empty places and a zeroed area.
 pub fn new_board(area: &mut [u8]) -> NewBoard
@@ -29,31 +40,38 @@ pub fn new_board(area: &mut [u8]) -> NewBoard
 {
     let board = empty_board();
     if area.len() < 8256 {
-        return NewBoard { answer: Made::ShortArea, board };
+        return NewBoard {
+            answer: Made::ShortArea,
+            board,
+        };
     }
     base::clear(&mut area[..8256]);
-    NewBoard { answer: Made::Board, board }
+    NewBoard {
+        answer: Made::Board,
+        board,
+    }
 }
 
-// Empties a place.
-pub fn take_off(board: Board, area: &mut [u8], place: usize) -> TakenOff
-    ensures { λ r. ⌜ TakesOff board (now (area .entry)) place (takeReply (r .answer)) (r .board) (now (area .exit)) ⌝ }
+// Looks at the area, the place's number, the whole board, and then the place.
+fn look_at(board: Board, area: &[u8], place: usize) -> Target
+    ensures { λ r. ⌜ Looks board (now (area .entry)) place r ⌝ }
 {
     if area.len() < 8256 {
-        return TakenOff { answer: Take::ShortArea, board };
+        return Target::ShortArea;
     }
     if 8 <= place {
-        return TakenOff { answer: Take::NoPlace, board };
+        return Target::NoPlace;
     }
-    if impossible(survey(board, area)) {
-        return TakenOff { answer: Take::Impossible, board };
+    let found = survey(board, area);
+    let cannot_be = impossible(found);
+    let on = taken(case_at(board, place));
+    if cannot_be {
+        return Target::Impossible;
     }
-    if taken(case_at(board, place)) {
-        clear_place(area, place);
-        let next = with_case(board, place, Case::Empty);
-        TakenOff { answer: Take::Off, board: next }
+    if on {
+        Target::Taken
     } else {
-        TakenOff { answer: Take::EmptyPlace, board }
+        Target::Empty(found)
     }
 }
 
@@ -67,35 +85,94 @@ fn first_case(mode: Mode) -> Case
     }
 }
 
-// Puts a table on an empty place, at row 0.
-pub fn put_on(board: Board, area: &mut [u8], place: usize, table: &[u8]) -> PutOn
+// Loads a table and puts it on an empty place, at row 0.
+fn put_table(board: Board, area: &mut [u8], place: usize, table: &[u8], found: Found) -> PutOn
+    requires { ⌜ EmptyTarget board (now area) place found ⌝ }
     ensures { λ r. ⌜ PutsOn board (now (area .entry)) place (now (table .entry)) (putReply (r .answer)) (r .board) (now (area .exit)) ⌝ }
 {
-    if area.len() < 8256 {
-        return PutOn { answer: Put::ShortArea, board };
-    }
-    if 8 <= place {
-        return PutOn { answer: Put::NoPlace, board };
-    }
-    let found = survey(board, area);
-    let cannot_be = impossible(found);
-    let on = taken(case_at(board, place));
-    if cannot_be {
-        return PutOn { answer: Put::Impossible, board };
-    }
-    if on {
-        return PutOn { answer: Put::Taken, board };
-    }
     match table::load(table) {
-        Loaded::Malformed => PutOn { answer: Put::Malformed, board },
-        Loaded::NotCanonical => PutOn { answer: Put::NotCanonical, board },
-        Loaded::Table { mode, actions, rows: _ } => {
+        Loaded::Malformed => PutOn {
+            answer: Put::Malformed,
+            board,
+        },
+        Loaded::NotCanonical => PutOn {
+            answer: Put::NotCanonical,
+            board,
+        },
+        Loaded::Table {
+            mode,
+            actions,
+            rows: _,
+        } => {
             if admits(found, actions) {
                 write_place(area, place, table);
                 let next = with_case(board, place, first_case(mode));
-                PutOn { answer: Put::On, board: next }
+                PutOn {
+                    answer: Put::On,
+                    board: next,
+                }
             } else {
-                PutOn { answer: Put::OtherActions, board }
+                PutOn {
+                    answer: Put::OtherActions,
+                    board,
+                }
+            }
+        }
+    }
+}
+
+// Puts a table on.
+pub fn put_on(board: Board, area: &mut [u8], place: usize, table: &[u8]) -> PutOn
+    ensures { λ r. ⌜ PutsOn board (now (area .entry)) place (now (table .entry)) (putReply (r .answer)) (r .board) (now (area .exit)) ⌝ }
+{
+    match look_at(board, area, place) {
+        Target::ShortArea => PutOn {
+            answer: Put::ShortArea,
+            board,
+        },
+        Target::NoPlace => PutOn {
+            answer: Put::NoPlace,
+            board,
+        },
+        Target::Impossible => PutOn {
+            answer: Put::Impossible,
+            board,
+        },
+        Target::Taken => PutOn {
+            answer: Put::Taken,
+            board,
+        },
+        Target::Empty(found) => put_table(board, area, place, table, found),
+    }
+}
+
+// Takes a table off: empties its place.
+pub fn take_off(board: Board, area: &mut [u8], place: usize) -> TakenOff
+    ensures { λ r. ⌜ TakesOff board (now (area .entry)) place (takeReply (r .answer)) (r .board) (now (area .exit)) ⌝ }
+{
+    match look_at(board, area, place) {
+        Target::ShortArea => TakenOff {
+            answer: Take::ShortArea,
+            board,
+        },
+        Target::NoPlace => TakenOff {
+            answer: Take::NoPlace,
+            board,
+        },
+        Target::Impossible => TakenOff {
+            answer: Take::Impossible,
+            board,
+        },
+        Target::Empty(_) => TakenOff {
+            answer: Take::EmptyPlace,
+            board,
+        },
+        Target::Taken => {
+            clear_place(area, place);
+            let next = with_case(board, place, Case::Empty);
+            TakenOff {
+                answer: Take::Off,
+                board: next,
             }
         }
     }

@@ -4,6 +4,7 @@ mod actions;
 mod calls;
 mod places;
 mod survey;
+
 pub use actions::action;
 pub use calls::new_board;
 pub use calls::put_on;

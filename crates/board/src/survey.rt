@@ -31,7 +31,12 @@ fn check_at(area: &[u8], place: usize) -> Header
     ensures { λ r. ⌜ Checked (tableAt (now (area .entry)) place) r ⌝ }
 {
     let bytes = place_bytes(area, place);
-    let Header::Fields { mode: _, actions, rows } = table::header_of(bytes) else {
+    let Header::Fields {
+        mode: _,
+        actions,
+        rows,
+    } = table::header_of(bytes)
+    else {
         return Header::BadHeader;
     };
     let size = 8 + rows * actions;
@@ -53,13 +58,22 @@ fn rule_at(area: &[u8], place: usize, kind: usize, row: usize) -> Seen
     requires { ⌜ Within (now area) place ⌝ }
     ensures { λ r. ⌜ SeesRule (tableAt (now (area .entry)) place) kind row r ⌝ }
 {
-    let Header::Fields { mode, actions, rows } = check_at(area, place) else {
+    let Header::Fields {
+        mode,
+        actions,
+        rows,
+    } = check_at(area, place)
+    else {
         return Seen::Misfit;
     };
     if type_number(mode) != kind {
         return Seen::Misfit;
     }
-    if row < rows { Seen::Fits(actions) } else { Seen::Misfit }
+    if row < rows {
+        Seen::Fits(actions)
+    } else {
+        Seen::Misfit
+    }
 }
 
 // One place. The bytes of an empty place are not read; a fulfilled rule is a watched one at any row.

@@ -81,10 +81,11 @@ loop-less c = search needs
 
 loop-again : tie.Need-loop-again Inv-loop μ-loop
 loop-again c =
-    let d = c .before in
-    (search needs,
-    ⊎-elim (λ w. subst (λ (x : Denier). Known d x) (sym (w .1)) (found-here d (w .0 .taken))) (λ w. subst (λ (x : Denier). Known d x) (sym (w .1)) (as-before d (w .0 .left)))
-    (c .if1 .came))
+    let d = c .before in (
+      search needs,
+      ⊎-elim (λ w. subst (λ (x : Denier). Known d x) (sym (w .1)) (found-here d (w .0 .taken))) (λ w. subst (λ (x : Denier). Known d x) (sym (w .1)) (as-before d (w .0 .left)))
+          (c .if1 .came),
+    )
 
 returns : tie.Need-returns Inv-loop μ-loop
 returns c =

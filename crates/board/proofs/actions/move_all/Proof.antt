@@ -66,9 +66,9 @@ module _ (c : tie.After-bit Inv-loop μ-loop) where
   abbrev i : ℕ
   i = head .loop .i
 
-  stepped : Steps (tableAt area i) action (caseAt board i) (step .move-rule .result .case) (step .move-rule .result .fulfils)
+  stepped : Steps (tableAt area i) action (caseAt board i) (step .move-rule .result .case) (step .move-rule .result .trips)
   stepped =
-      subst (λ (x : Case). Steps (tableAt area i) action x (step .move-rule .result .case) (step .move-rule .result .fulfils)) (step .before .case-at .ensures)
+      subst (λ (x : Case). Steps (tableAt area i) action x (step .move-rule .result .case) (step .move-rule .result .trips)) (step .before .case-at .ensures)
       (step .move-rule .ensures)
 
   more : MovedBelow board area action (i + 1) (c .before .with-case .result) (head .loop .fulfilled + c .bit .result)

@@ -64,7 +64,7 @@ returns-4 c =
 returns-5 : tie.Need-returns-5
 returns-5 c =
     let g = c .before .before .before .args in
-    subst (λ (x : Case). Steps (tableAt (g .area .now) (g .place)) (g .action) x Fulfilled false) (sym (c .enum-told2 .given .1)) (steps-fulfilled-before _ _)
+    subst (λ (x : Case). Steps (tableAt (g .area .now) (g .place)) (g .action) x x false) (sym (c .enum-told2 .given .1)) (steps-fulfilled-before _ _)
 
 pub move-rule-spec : {M : Type 1} → statement M
 move-rule-spec =
