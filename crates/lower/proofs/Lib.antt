@@ -1,1 +1,5 @@
+pub mod Facts
 pub mod FormulaSets
+pub mod NodeTypes
+pub mod SetBits
+pub mod SetsRight
