@@ -4,11 +4,12 @@ use mathlib.Core.Path.{_≡_, refl, sym, ap, _∙_}
 use mathlib.Core.Bool.{Bool, true, false, cond}
 use mathlib.Core.List.{List, [], _∷_, _++_}
 use Prim.Native.Nat.{ℕ, zero, suc, _+_, _*_, _/_, _%_, _^_, _≤_, _<_}
+use native.Mathlib.Decide.{ℕ-discrete}
 use native.Mathlib.Nat.{pow-suc}
 use native.Mathlib.Numerals.{add-one}
 use native.Mathlib.Omega.{arith}
 use lib.ListN.{length, getD, set, drop, length-append, List·getD-append}
-use lib.Seq.{drop-cons, set-at, append-snoc}
+use lib.Seq.{drop-cons, set-at, getD-at, append-snoc}
 use lib.Pow.{pow-pos}
 use lib.Dec.{eqb}
 use borrow.Author.Tests.{eq-eqb, ne-eqb}
@@ -93,3 +94,26 @@ module _ (bytes : List ℕ) (n : ℕ) (l : List ℕ) where
       (set-at (setsOf bytes n) (getD l n 0) (drop (suc n) l) x n (length-sets bytes n)
       ∙ ap (λ (y : ℕ). setsOf bytes n ++ (y ∷ drop (suc n) l)) (r ∙ ap (λ (t : List ℕ). setRead bytes (λ i. getD t i 0) (nodeOf bytes n)) e ∙ set-next)
       ∙ sym (append-snoc (setsOf bytes n) _ (drop (suc n) l)))
+
+-- later nodes change no set
+module _ (bytes : List ℕ) where
+  pub set-stays : (j n : ℕ) → n < j → getD (setsOf bytes j) n 0 ≡ getD (setsOf bytes (suc n)) n 0
+  set-stays zero n h = absurd (omega arith)
+  set-stays (suc j) n h = go (set-stays j n) (ℕ-discrete n j)
+    where
+      go : (n < j → getD (setsOf bytes j) n 0 ≡ getD (setsOf bytes (suc n)) n 0) → Dec (n ≡ j) → getD (setsOf bytes (suc j)) n 0 ≡ getD (setsOf bytes (suc n)) n 0
+      go ih (yes p) = rw p
+      go ih (no q) =
+          List·getD-append (setsOf bytes j) (setRead bytes (λ i. getD (setsOf bytes j) i 0) (nodeOf bytes j) ∷ []) 0 n (omega (arith, length-sets bytes j)) ∙ ih (omega arith)
+
+  -- the set of a node is made of those of its parts
+  pub set-of : (j n : ℕ) (node : Node) → n < j → nodeOf bytes n ≡ Read node → PartsBelow n node
+    → getD (setsOf bytes j) n 0 ≡ setOf bytes (λ i. getD (setsOf bytes j) i 0) node
+  set-of j n node h read parts =
+      set-stays j n h
+      ∙ getD-at (setsOf bytes n) (setRead bytes (λ i. getD (setsOf bytes n) i 0) (nodeOf bytes n)) [] 0 n (length-sets bytes n)
+      ∙ ap (setRead bytes (λ i. getD (setsOf bytes n) i 0)) read
+      ∙ set-local bytes n (λ i. getD (setsOf bytes n) i 0) (λ i. getD (setsOf bytes j) i 0) same node parts
+    where
+      same : (i : ℕ) → i < n → getD (setsOf bytes n) i 0 ≡ getD (setsOf bytes j) i 0
+      same i g = set-stays n i g ∙ sym (set-stays j i (omega arith))
