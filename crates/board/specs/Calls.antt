@@ -48,13 +48,13 @@ pub data PutsOn (board : Board) (area : List ℕ) (place : ℕ) (table : List �
   put-25 : Whole area → place < 8 → (Possible board area → ⊥) → PutsOn board area place table (state 25) board area
   put-22 : Whole area → place < 8 → Possible board area → taken (caseAt board place) ≡ true → PutsOn board area place table (state 22) board area
   put-refused : Whole area → place < 8 → Possible board area → taken (caseAt board place) ≡ false
-    → (number : ℕ) → Loads table (refused number 0) → PutsOn board area place table (input number 0) board area
+      → (number : ℕ) → Loads table (refused number 0) → PutsOn board area place table (input number 0) board area
   put-23 : Whole area → place < 8 → Possible board area → taken (caseAt board place) ≡ false
-    → (type actions rows : ℕ) → Loads table (accepted type actions rows) → (SameActions board area actions → ⊥)
-    → PutsOn board area place table (state 23) board area
+      → (type actions rows : ℕ) → Loads table (accepted type actions rows) → (SameActions board area actions → ⊥)
+      → PutsOn board area place table (state 23) board area
   put : Whole area → place < 8 → Possible board area → taken (caseAt board place) ≡ false
-    → (type actions rows : ℕ) → Loads table (accepted type actions rows) → SameActions board area actions
-    → PutsOn board area place table done (withCase board place (firstCase type)) (withBytes area place table)
+      → (type actions rows : ℕ) → Loads table (accepted type actions rows) → SameActions board area actions
+      → PutsOn board area place table done (withCase board place (firstCase type)) (withBytes area place table)
 
 -- Taking off.
 pub data TakesOff (board : Board) (area : List ℕ) (place : ℕ) : Reply → Board → List ℕ → Type 0 where
@@ -63,7 +63,7 @@ pub data TakesOff (board : Board) (area : List ℕ) (place : ℕ) : Reply → Bo
   take-25 : Whole area → place < 8 → (Possible board area → ⊥) → TakesOff board area place (state 25) board area
   take-21 : Whole area → place < 8 → Possible board area → taken (caseAt board place) ≡ false → TakesOff board area place (state 21) board area
   taken-off : Whole area → place < 8 → Possible board area → taken (caseAt board place) ≡ true
-    → TakesOff board area place done (withCase board place Empty) (withBytes area place (replicate 1032 0))
+      → TakesOff board area place done (withCase board place Empty) (withBytes area place (replicate 1032 0))
 
 -- An action's entry in a row of a table.
 abbrev pub entryAt : List ℕ → ℕ → ℕ → ℕ
@@ -123,10 +123,10 @@ pub data Acts (board : Board) (area : List ℕ) (action : ℕ) : Reply → Board
   act-25 : Whole area → (Possible board area → ⊥) → Acts board area action (state 25) board
   act-24 : Whole area → Possible board area → Vacant board → Acts board area action (state 24) board
   act-12 : Whole area → Possible board area → (place : ℕ) → place < 8 → taken (caseAt board place) ≡ true → actionsOf (tableAt area place) ≤ action
-    → Acts board area action (input 12 0) board
+      → Acts board area action (input 12 0) board
   act-denied : Whole area → Possible board area → InList board area action
-    → (place : ℕ) → place < 8 → denies (tableAt area place) action (caseAt board place) ≡ true → NoneDenies board area action place
-    → Acts board area action (denied place) board
+      → (place : ℕ) → place < 8 → denies (tableAt area place) action (caseAt board place) ≡ true → NoneDenies board area action place
+      → Acts board area action (denied place) board
   act-permitted : Whole area → Possible board area → InList board area action → NoneDenies board area action 8
-    → (next : Board) → AllMoved board area action next
-    → Acts board area action (permitted (fulfilledBelow board area action 8)) next
+      → (next : Board) → AllMoved board area action next
+      → Acts board area action (permitted (fulfilledBelow board area action 8)) next

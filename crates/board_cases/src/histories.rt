@@ -13,9 +13,24 @@ pub fn refusals() {
     b = act(b, &lent, 0);
     b = take(b, &mut lent, 0);
     b = take(b, &mut lent, 8);
-    b = put(b, &mut lent, 8, b"\x01\x00\x04\x00\x01\x00\x08\x00\xff\x00\x00\x00");
-    b = put(b, &mut lent, 0, b"\x01\x00\x04\x00\x01\x00\x08\x00\xff\x00\x00\x00");
-    b = put(b, &mut lent, 0, b"\x01\x00\x04\x00\x01\x00\x08\x00\xff\x00\x00\x00");
+    b = put(
+        b,
+        &mut lent,
+        8,
+        b"\x01\x00\x04\x00\x01\x00\x08\x00\xff\x00\x00\x00",
+    );
+    b = put(
+        b,
+        &mut lent,
+        0,
+        b"\x01\x00\x04\x00\x01\x00\x08\x00\xff\x00\x00\x00",
+    );
+    b = put(
+        b,
+        &mut lent,
+        0,
+        b"\x01\x00\x04\x00\x01\x00\x08\x00\xff\x00\x00\x00",
+    );
     b = put(b, &mut lent, 1, b"\x01\x00");
     b = put(b, &mut lent, 1, b"\x01\x00\x01\x00\x02\x00\x08\x00\x01\x00");
     b = put(b, &mut lent, 1, b"\x01\x00\x01\x00\x01\x00\x08\x00\x00");
@@ -26,8 +41,18 @@ pub fn refusals() {
 pub fn a_roast() {
     let mut lent = area();
     let mut b = make(&mut lent);
-    b = put(b, &mut lent, 0, b"\x01\x00\x04\x00\x02\x00\x08\x00\xff\x00\x01\x00\x01\x01\x01\x01");
-    b = put(b, &mut lent, 1, b"\x02\x00\x04\x00\x01\x00\x08\x00\x00\xff\x00\x00");
+    b = put(
+        b,
+        &mut lent,
+        0,
+        b"\x01\x00\x04\x00\x02\x00\x08\x00\xff\x00\x01\x00\x01\x01\x01\x01",
+    );
+    b = put(
+        b,
+        &mut lent,
+        1,
+        b"\x02\x00\x04\x00\x01\x00\x08\x00\x00\xff\x00\x00",
+    );
     b = act(b, &lent, 0);
     b = act(b, &lent, 1);
     b = act(b, &lent, 1);
@@ -39,12 +64,22 @@ pub fn a_roast() {
 pub fn again() {
     let mut lent = area();
     let mut b = make(&mut lent);
-    b = put(b, &mut lent, 3, b"\x02\x00\x04\x00\x01\x00\x08\x00\x00\xff\x00\x00");
+    b = put(
+        b,
+        &mut lent,
+        3,
+        b"\x02\x00\x04\x00\x01\x00\x08\x00\x00\xff\x00\x00",
+    );
     b = act(b, &lent, 1);
     b = act(b, &lent, 1);
     b = take(b, &mut lent, 3);
     b = act(b, &lent, 1);
-    b = put(b, &mut lent, 3, b"\x02\x00\x04\x00\x01\x00\x08\x00\x00\xff\x00\x00");
+    b = put(
+        b,
+        &mut lent,
+        3,
+        b"\x02\x00\x04\x00\x01\x00\x08\x00\x00\xff\x00\x00",
+    );
     act(b, &lent, 1);
 }
 
@@ -52,10 +87,25 @@ pub fn again() {
 pub fn denials() {
     let mut lent = area();
     let mut b = make(&mut lent);
-    b = put(b, &mut lent, 7, b"\x01\x00\x04\x00\x01\x00\x08\x00\xff\x00\x00\x00");
-    b = put(b, &mut lent, 3, b"\x02\x00\x04\x00\x01\x00\x08\x00\xff\x00\x00\x00");
+    b = put(
+        b,
+        &mut lent,
+        7,
+        b"\x01\x00\x04\x00\x01\x00\x08\x00\xff\x00\x00\x00",
+    );
+    b = put(
+        b,
+        &mut lent,
+        3,
+        b"\x02\x00\x04\x00\x01\x00\x08\x00\xff\x00\x00\x00",
+    );
     b = act(b, &lent, 0);
-    b = put(b, &mut lent, 2, b"\x01\x00\x04\x00\x01\x00\x08\x00\xff\x00\x00\x00");
+    b = put(
+        b,
+        &mut lent,
+        2,
+        b"\x01\x00\x04\x00\x01\x00\x08\x00\xff\x00\x00\x00",
+    );
     b = act(b, &lent, 0);
     b = take(b, &mut lent, 2);
     b = take(b, &mut lent, 7);
@@ -67,7 +117,12 @@ pub fn denials() {
 pub fn combined() {
     let mut lent = area();
     let mut b = make(&mut lent);
-    b = put(b, &mut lent, 0, b"\x01\x00\x05\x00\x02\x00\x08\x00\xff\x00\x01\x00\xff\x01\x01\x01\x01\x01");
+    b = put(
+        b,
+        &mut lent,
+        0,
+        b"\x01\x00\x05\x00\x02\x00\x08\x00\xff\x00\x01\x00\xff\x01\x01\x01\x01\x01",
+    );
     b = act(b, &lent, 4);
     b = act(b, &lent, 2);
     act(b, &lent, 4);
@@ -77,7 +132,12 @@ pub fn combined() {
 pub fn damaged() {
     let mut lent = area();
     let mut b = make(&mut lent);
-    b = put(b, &mut lent, 0, b"\x01\x00\x04\x00\x02\x00\x08\x00\xff\x00\x01\x00\x01\x01\x01\x01");
+    b = put(
+        b,
+        &mut lent,
+        0,
+        b"\x01\x00\x04\x00\x02\x00\x08\x00\xff\x00\x01\x00\x01\x01\x01\x01",
+    );
     damage(&mut lent, 0, 2);
     b = act(b, &lent, 1);
     b = put(b, &mut lent, 0, b"");

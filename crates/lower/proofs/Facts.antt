@@ -65,7 +65,7 @@ module _ (bytes : List ℕ) where
   -- a policy node's rule over its parts is the rule of its policy, where each part means what it means in `before`
   module _ (n : ℕ) (before : List Meaning) (same-meaning : (i : ℕ) → i < n → getD before i (formula always-false) ≡ means i) (types : ℕ → NodeType) (m : Mode) (k : Bound) where
     rule-node : (node : Node) → PartsBelow n node → Fitting types (Policy m k) node
-      → onParts (nodePolicy bytes) (ruleBy bytes node) ≡ ruleAs (meaningOf before node)
+        → onParts (nodePolicy bytes) (ruleBy bytes node) ≡ ruleAs (meaningOf before node)
     rule-node True h f = not-policy f
     rule-node False h f = not-policy f
     rule-node (Proposition p) h f = not-policy f

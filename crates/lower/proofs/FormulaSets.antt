@@ -108,7 +108,7 @@ module _ (bytes : List ℕ) where
 
   -- the set of a node is made of those of its parts
   pub set-of : (j n : ℕ) (node : Node) → n < j → nodeOf bytes n ≡ Read node → PartsBelow n node
-    → getD (setsOf bytes j) n 0 ≡ setOf bytes (λ i. getD (setsOf bytes j) i 0) node
+      → getD (setsOf bytes j) n 0 ≡ setOf bytes (λ i. getD (setsOf bytes j) i 0) node
   set-of j n node h read parts =
       set-stays j n h
       ∙ getD-at (setsOf bytes n) (setRead bytes (λ i. getD (setsOf bytes n) i 0) (nodeOf bytes n)) [] 0 n (length-sets bytes n)

@@ -99,7 +99,7 @@ module _ (types : ℕ → NodeType) where
       (p .policy, is-policy (types a) (u .2), is-policy (types b) (v .1))
 
   both-watched : (a b : ℕ) (f : Bound → Bound → Typing) {t : NodeType} → found (ifWatched (s a) (λ j. ifWatched (s b) (f j))) ≡ Fits t
-    → IsPolicy t × IsPolicy (types a) × IsPolicy (types b)
+      → IsPolicy t × IsPolicy (types a) × IsPolicy (types b)
   both-watched a b f e =
       let p = from-found (ifWatched (s a) (λ j. ifWatched (s b) (f j))) e in
       let u = from-watched (s a) (λ j. ifWatched (s b) (f j)) (p .typed) in
@@ -107,7 +107,7 @@ module _ (types : ℕ → NodeType) where
       (p .policy, is-policy (types a) (u .1), is-policy (types b) (v .1))
 
   then-enforced : (a b : ℕ) (f : Bound → Bound → Typing) {t : NodeType} → found (ifWatched (s a) (λ j. ifEnforced (s b) (f j))) ≡ Fits t
-    → IsPolicy t × IsPolicy (types a) × IsPolicy (types b)
+      → IsPolicy t × IsPolicy (types a) × IsPolicy (types b)
   then-enforced a b f e =
       let p = from-found (ifWatched (s a) (λ j. ifEnforced (s b) (f j))) e in
       let u = from-watched (s a) (λ j. ifEnforced (s b) (f j)) (p .typed) in

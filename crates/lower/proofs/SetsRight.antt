@@ -43,7 +43,7 @@ module _ (bytes : List ℕ) (few : actionCount bytes ≤ 16) where
   right-proposition p =
       record {
         each = bit-proposition bytes p (actionCount bytes);
-        narrow = omega (arith, proposition-width bytes p (actionCount bytes), pow-mono {i = actionCount bytes} {j = 16} few)
+        narrow = omega (arith, proposition-width bytes p (actionCount bytes), pow-mono {i = actionCount bytes} {j = 16} few);
       }
 
   pub right-negation : (f : ActionFormula) (s : ℕ) → RightSet bytes f s → RightSet bytes (negation f) (complement s)
