@@ -8,3 +8,4 @@ pub mod CompiledTable
 pub mod Demands
 pub mod Link
 pub mod NodeCodes
+pub mod Facts
