@@ -9,3 +9,10 @@ pub mod Demands
 pub mod Link
 pub mod NodeCodes
 pub mod Facts
+pub mod WorkSlots
+pub mod StoredRows
+pub mod WrittenTable
+pub mod Progressing
+pub mod Lowerings
+pub mod Finishing
+pub mod LentAreas

@@ -42,7 +42,7 @@ module _ {X : Type 0} (actions : ℕ) (Q : X → Type 0) (f : ℕ → X) where
   same-parts r s (filters h g e p) q = q
   same-parts r s (equal x) q = q
 
-same-all : (actions : ℕ) (Q : ℕ → Type 0) (r s : Rule ℕ) → SameRule actions r s → AllParts Q r → AllParts Q s
+pub same-all : (actions : ℕ) (Q : ℕ → Type 0) (r s : Rule ℕ) → SameRule actions r s → AllParts Q r → AllParts Q s
 same-all actions Q r s (opens h g e) q = tt
 same-all actions Q r s (filters h g e p) q = q
 same-all actions Q r s (equal x) q = q

@@ -13,7 +13,7 @@ use Rattle.policy.specs.Closed.{Below, Closed}
 
 module _ {rows actions : ℕ} {entries : List ℕ} (mc : Machine 255 rows actions entries) where
   -- an entry that is no trip stands inside the list, and is a row
-  entry-below : (k : ℕ) → (getD entries k 255 ≡ 255 → ⊥) → getD entries k 255 < rows
+  pub entry-below : (k : ℕ) → (getD entries k 255 ≡ 255 → ⊥) → getD entries k 255 < rows
   entry-below k q = elim (decLt k (rows * actions)) [ yes h ↦ mc .closed k h q | no h ↦ absurd (q (past (omega arith))) ]
     where
       past : rows * actions ≤ k → getD entries k 255 ≡ 255

@@ -1,4 +1,5 @@
 pub mod Limits
 pub mod Compiles
 pub mod SheetFacts
+pub mod Building
 pub mod Demands

@@ -1,4 +1,10 @@
-// The compiler: from a rule sheet to its table.
+// The compiler: from a rule sheet to its table. Definitions of what it gives are in specs/Compiles.antt.
+mod call;
+mod nodes;
+mod output;
+mod scratch;
+
+pub use call::compile;
 use sheet::Fault;
 use trace::Mode;
 
@@ -13,4 +19,11 @@ pub enum Compiled {
     Faulty(Fault),
     TooManyValues(usize),
     TooManyRows(usize),
+}
+
+// What building all nodes answers: the rows of the last one, or the node that is over a limit.
+pub enum AllBuilt {
+    Rows(usize),
+    ValuesAt(usize),
+    RowsAt(usize),
 }

@@ -1,0 +1,128 @@
+-- `build_sheet` meets its contract: the sets of the formulas, then every node.
+-- Assumes nothing.
+use mathlib.Core.Path.{_≡_}
+use native.Mathlib.Omega.{arith}
+use lib.ListN.{length}
+use Rattle.sheet.specs.Sheet.{actionCount, nodeCount, actionsAt, nodesAt}
+use Rattle.compiler.specs.Compiles.{SoundSheet}
+use Rattle.compiler.specs.Building.{typesOf}
+use Rattle.compiler.proofs.Progressing.{begins}
+use Rattle.compiler.proofs.Finishing.{settable, prepared}
+use borrow.Author.Needs.{needs}
+use Rattle.compiler.proofs.call.build_sheet.Statement.{statement}
+use Rattle.compiler.proofs.call.build_sheet.Tie as tie
+
+-- what is lent
+module _ (c : tie.Start) where
+  sheet : SoundSheet (c .args .sheet .now) (typesOf (c .args .sheet .now) (c .args .types))
+  sheet = c .pre .0
+
+  actions : c .args .actions ≡ actionCount (c .args .sheet .now)
+  actions = c .pre .1 .0
+
+  nodes : c .args .nodes ≡ nodeCount (c .args .sheet .now)
+  nodes = c .pre .1 .1 .0
+
+  from : c .args .actions-at ≡ actionsAt (c .args .sheet .now)
+  from = c .pre .1 .1 .1 .0
+
+  nodes-from : c .args .nodes-at ≡ nodesAt (c .args .sheet .now)
+  nodes-from = c .pre .1 .1 .1 .1 .0
+
+room-for-sets-requires : tie.Need-room-for-sets-requires
+room-for-sets-requires c κs = search needs
+
+room-for-next-requires : tie.Need-room-for-next-requires
+room-for-next-requires c κs = search needs
+
+room-for-bytes-requires : tie.Need-room-for-bytes-requires
+room-for-bytes-requires c κs = search needs
+
+room-for-bytes-requires-2 : tie.Need-room-for-bytes-requires-2
+room-for-bytes-requires-2 c κs = search needs
+
+room-for-firsts-requires : tie.Need-room-for-firsts-requires
+room-for-firsts-requires c κs = search needs
+
+room-for-bytes-requires-3 : tie.Need-room-for-bytes-requires-3
+room-for-bytes-requires-3 c κs = search needs
+
+slice-aggregate-formula-sets : tie.Need-slice-aggregate-formula-sets
+slice-aggregate-formula-sets c = search needs
+
+formula-sets-requires : tie.Need-formula-sets-requires
+formula-sets-requires c κs =
+    let z = c .before .before .before .before .before .before .before .before .before .before in
+    settable _ _ (sheet z) _ _ _ _ (actions z) (nodes z) (from z) (nodes-from z) _
+    (let e = c .before .before .before .before .before .before .room-for-sets .ensures in omega arith)
+
+slice-aggregate-build-all : tie.Need-slice-aggregate-build-all
+slice-aggregate-build-all c = search needs
+
+slice-aggregate-build-all-2 : tie.Need-slice-aggregate-build-all-2
+slice-aggregate-build-all-2 c = search needs
+
+slice-aggregate-build-all-3 : tie.Need-slice-aggregate-build-all-3
+slice-aggregate-build-all-3 c = search needs
+
+slice-aggregate-build-all-4 : tie.Need-slice-aggregate-build-all-4
+slice-aggregate-build-all-4 c = search needs
+
+slice-aggregate-build-all-5 : tie.Need-slice-aggregate-build-all-5
+slice-aggregate-build-all-5 c = search needs
+
+slice-aggregate-build-all-6 : tie.Need-slice-aggregate-build-all-6
+slice-aggregate-build-all-6 c = search needs
+
+build-all-requires : tie.Need-build-all-requires
+build-all-requires c κs =
+    let z = c .before .before .before .before .before .before .before .before .before .before .before .before .before .before .before .before .before .before .before .before in
+    let f = c .before .before .before .before .before .before .before .before .before in (
+      prepared _ _ _ _ _ _ (sheet z) (actions z) (nodes z) (from z) (nodes-from z) _ _ (f .formula-sets .ensures),
+      (
+        z .pre .1 .1 .1 .1 .1 .0,
+        (
+          record {
+            for-values = z .pre .1 .1 .1 .1 .1 .1 .1;
+            for-next = let e = c .before .before .before .before .before .before .before .before .before .before .before .before .before .before .before .room-for-next .ensures in omega arith;
+            for-classes = let e = c .before .before .before .before .before .before .before .before .before .before .before .before .before .before .room-for-bytes .ensures in omega arith;
+            for-other = let e = c .before .before .before .before .before .before .before .before .before .before .before .before .before .room-for-bytes2 .ensures in omega arith;
+            for-firsts = let e = c .before .before .before .before .before .before .before .before .before .before .before .before .room-for-firsts .ensures in omega arith;
+            for-rows = let e = c .before .before .before .before .before .before .before .before .before .before .before .room-for-bytes3 .ensures in omega arith;
+          },
+          (nodes z, (nodes-from z, (0, begins _ _ _ _ _ (z .pre .1 .1 .1 .1 .1 .1 .0)))),
+        ),
+      ),
+    )
+
+same-length : tie.Need-same-length
+same-length c = search needs
+
+same-length-2 : tie.Need-same-length-2
+same-length-2 c = search needs
+
+returns : tie.Need-returns
+returns c = search needs
+
+pub build-sheet-spec : {M : Type 1} → statement M
+build-sheet-spec =
+    tie.close
+    (tie.spec
+    room-for-sets-requires
+    room-for-next-requires
+    room-for-bytes-requires
+    room-for-bytes-requires-2
+    room-for-firsts-requires
+    room-for-bytes-requires-3
+    slice-aggregate-formula-sets
+    formula-sets-requires
+    slice-aggregate-build-all
+    slice-aggregate-build-all-2
+    slice-aggregate-build-all-3
+    slice-aggregate-build-all-4
+    slice-aggregate-build-all-5
+    slice-aggregate-build-all-6
+    build-all-requires
+    same-length
+    same-length-2
+    returns)

@@ -1,0 +1,61 @@
+-- `compile_in` meets its contract: the work area filled, the sheet compiled, both areas zeroed.
+-- Assumes nothing.
+use mathlib.Core.Path.{_≡_, sym, _∙_}
+use native.Mathlib.Omega.{arith}
+use lib.ListN.{length}
+use Rattle.compiler.specs.Building.{LimitsFit}
+use Rattle.compiler.proofs.LentAreas.{of-length}
+use borrow.Author.Needs.{needs}
+use Rattle.compiler.proofs.call.compile_in.Statement.{statement}
+use Rattle.compiler.proofs.call.compile_in.Tie as tie
+
+fill-requires : tie.Need-fill-requires
+fill-requires c κs = search needs
+
+compile-with-requires : tie.Need-compile-with-requires
+compile-with-requires c κs =
+    let z = c .before .before .before .before .before .before .before .before .before .before .before in (
+      record { value-low = omega arith; value-high = omega arith; row-low = omega arith; row-high = omega arith },
+      (z .pre .0, (of-length 65536 255 (z .args .work .now) _ (z .pre .1 .0) (c .before .before .before .before .before .fill .ensures), (let e = z .pre .1 .1 in omega arith))),
+    )
+
+clear-requires : tie.Need-clear-requires
+clear-requires c κs = search needs
+
+clear-numbers-requires : tie.Need-clear-numbers-requires
+clear-numbers-requires c κs = search needs
+
+same-length : tie.Need-same-length
+same-length c = search needs
+
+same-length-2 : tie.Need-same-length-2
+same-length-2 c = search needs
+
+same-length-3 : tie.Need-same-length-3
+same-length-3 c = search needs
+
+returns : tie.Need-returns
+returns c =
+    let k = c .before .before .before .before .before .before .before .before .before .before .before .before .before .before in
+    let z = k .before .before .before .before .before .before .before .before .before .before .before .before in
+    let p = k .compile-with .kept in
+    let q = k .before .before .before .before .before .before .fill .kept in (
+      k .compile-with .ensures,
+      (
+        of-length (length (z .args .work .now)) 0 (k .compile-with .last .1 .1 .0) _ (omega arith) (c .before .before .before .before .before .before .clear .ensures),
+        of-length (length (z .args .values .now)) 0 (k .compile-with .last .1 .1 .1 .0) _ (omega arith) (c .before .before .clear-numbers .ensures),
+      ),
+    )
+
+pub compile-in-spec : {M : Type 1} → statement M
+compile-in-spec =
+    tie.close
+    (tie.spec
+    fill-requires
+    compile-with-requires
+    clear-requires
+    clear-numbers-requires
+    same-length
+    same-length-2
+    same-length-3
+    returns)

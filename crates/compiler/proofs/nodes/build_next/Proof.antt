@@ -1,0 +1,96 @@
+-- `build_next` meets its contract: a formula is passed over, and a policy node is built.
+-- Assumes nothing.
+use mathlib.Core.Path.{_≡_, sym, _∙_}
+use native.Mathlib.Omega.{arith}
+use Prim.Native.Nat.{_<_}
+use Rattle.sheet.specs.Sheet.{nodeCount}
+use Rattle.compiler.specs.Building.{typesOf, LimitsFit, Rooms, Prepared, Begun}
+use Rattle.compiler.proofs.Lowerings.{formula-passes, buildable, policy-advances}
+use borrow.Author.Needs.{needs}
+use Rattle.compiler.proofs.nodes.build_next.Statement.{statement}
+use Rattle.compiler.proofs.nodes.build_next.Tie as tie
+
+module _ (c : tie.After-rule-of) where
+  abbrev start : tie.Start
+  start = c .before .before .before .before .before .before .before .before .before .before
+
+  prepared : Prepared (start .args .bytes .now) (start .args .types) (start .args .sets .now) (start .args .actions)
+  prepared = start .pre .0
+
+  limits : LimitsFit (start .args .value-limit) (start .args .row-limit)
+  limits = start .pre .1 .0
+
+  rooms : Rooms (start .args .values .now) (start .args .next .now) (start .args .classes .now) (start .args .other .now) (start .args .firsts .now) (start .args .rows .now)
+  rooms = start .pre .1 .1 .0
+
+  inside : start .args .n < nodeCount (start .args .bytes .now)
+  inside = start .pre .1 .1 .1 .0
+
+  begun : Begun (start .args .bytes .now) (typesOf (start .args .bytes .now) (start .args .types)) (start .args .value-limit) (start .args .row-limit) (start .args .n) (start .args .work .now)
+  begun = start .pre .1 .1 .1 .1 .1
+
+rule-of-requires : tie.Need-rule-of-requires
+rule-of-requires c κs = search needs
+
+enum-known-rule : tie.Need-enum-known-rule
+enum-known-rule c = search needs
+
+enum-told : tie.Need-enum-told
+enum-told c = search needs
+
+returns : tie.Need-returns
+returns c =
+    let r = c .before .before in
+    formula-passes _ _ _ _ (prepared r) _ (inside r) _ _ (limits r) _ (begun r) (sym (r .rule-of .ensures) ∙ c .enum-told .given .1)
+
+build-at-requires : tie.Need-build-at-requires
+build-at-requires c κs =
+    let r = c .before .before .before .before .before .before .before .before .before .before in
+    buildable _ _ _ _ (prepared r) _ (inside r) _ _ (limits r) _ (begun r) _ (sym (r .rule-of .ensures) ∙ c .before .before .before .before .before .before .before .before .rule .given .1) _ _ _ _ _ _ (rooms r)
+
+same-length : tie.Need-same-length
+same-length c = search needs
+
+same-length-2 : tie.Need-same-length-2
+same-length-2 c = search needs
+
+same-length-3 : tie.Need-same-length-3
+same-length-3 c = search needs
+
+same-length-4 : tie.Need-same-length-4
+same-length-4 c = search needs
+
+same-length-5 : tie.Need-same-length-5
+same-length-5 c = search needs
+
+same-length-6 : tie.Need-same-length-6
+same-length-6 c = search needs
+
+same-length-7 : tie.Need-same-length-7
+same-length-7 c = search needs
+
+returns-2 : tie.Need-returns-2
+returns-2 c =
+    let k = c .before .before .before .before .before .before .before .before .before .before .before .before .before .before in
+    let u = k .before .before .before .before .before .before .before .before in
+    let r = u .before .before .before in
+    policy-advances _ _ _ _ (prepared r) _ (inside r) _ _ (limits r) _ (begun r) _ (sym (r .rule-of .ensures) ∙ u .before .rule .given .1) (k .build-at .result) (k .build-at .last .1 .1 .1 .1 .1 .0)
+    (omega (arith, begun r .1 .room, k .build-at .kept)) (k .build-at .ensures)
+
+pub build-next-spec : {M : Type 1} → statement M
+build-next-spec =
+    tie.close
+    (tie.spec
+    rule-of-requires
+    enum-known-rule
+    enum-told
+    returns
+    build-at-requires
+    same-length
+    same-length-2
+    same-length-3
+    same-length-4
+    same-length-5
+    same-length-6
+    same-length-7
+    returns-2)
