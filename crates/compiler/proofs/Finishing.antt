@@ -2,40 +2,35 @@
 -- Assumes nothing.
 use mathlib.Core.Path.{_≡_, refl, sym, _∙_, ap, subst}
 use mathlib.Core.List.{List, [], _∷_, _++_}
-use Prim.Native.Nat.{ℕ, zero, suc, _+_, _*_, _-_, _≤_, _<_}
+use Prim.Native.Nat.{ℕ, zero, suc, _+_, _*_, _-_, _≤_}
 use native.Mathlib.Nat.{mul-le-mul}
 use native.Mathlib.Omega.{arith}
-use lib.ListN.{length, getD, take, drop, List·getD-append}
+use lib.ListN.{length, take, drop}
 use lib.Seq.{getD-take}
 use borrow.Rule.Slice.PartMut.{midOf, mid-len}
 use Rattle.trace.specs.declared.Mode.{Mode}
 use Rattle.policy.specs.declared.Bound.{Bound}
 use Rattle.table.specs.Answer.{modeNumber}
-use Rattle.sheet.specs.Sheet.{actionCount, nodeCount, actionsAt, nodesAt}
+use Rattle.sheet.specs.Sheet.{actionCount, nodeCount}
 use Rattle.sheet.specs.Types.{typeAt}
 use Rattle.sheet.specs.Plain as plain
-use Rattle.sheet.specs.Judge.{Outcome, faulty, sound, judge, layoutOf, outcomeBy, outcomeOf, NodesLaid, numberOf, spotOf}
+use Rattle.sheet.specs.Judge.{judge, outcomeBy, outcomeOf, numberOf, spotOf}
 use Rattle.sheet.specs.declared.Fault.{Fault}
 use Rattle.sheet.specs.declared.Judged.{Judged}
 use Rattle.sheet.specs.declared.Judged.the-variants.{Sound, Faulty}
 use Rattle.sheet.specs.declared.JudgedSheet.{JudgedSheet}
-use Rattle.sheet.specs.declared.Layout.{Layout}
-use Rattle.sheet.specs.declared.Layout.the-variants.{Laid, Misplaced}
-use Rattle.sheet.specs.declared.NodeType.{NodeType}
 use Rattle.sheet.specs.declared.NodeType.the-variants.{Formula, Policy}
 use Rattle.sheet.specs.declared.TypedNode.{TypedNode}
 use Rattle.sheet.proofs.Sound.{sound-sheet}
-use Rattle.sheet.proofs.Header.{laid, from-laid, nodes-laid}
+use Rattle.sheet.proofs.Header.{laid}
 use Rattle.lower.specs.Nodes.{NodeRows}
-use Rattle.lower.specs.Lowering.{Settable, setsOf}
 use Rattle.lower.proofs.NodeTypes.{not-policy}
-use Rattle.lower.proofs.FormulaSets.{length-sets}
-use Rattle.compiler.specs.Limits.{Built}
-use Rattle.compiler.specs.Compiles.{Answer, table, refused, tableBytes, SoundSheet, PolicyNode, Compiles, faulted, compiled}
-use Rattle.compiler.specs.Building.{typesOf, Prepared, Progress, Finishes, CompilesTo}
-use Rattle.compiler.specs.declared.AllBuilt.{AllBuilt}
-use Rattle.compiler.specs.declared.AllBuilt.the-variants.{Rows, ValuesAt, RowsAt}
-use Rattle.compiler.proofs.WorkSlots.{slot-front}
+use Rattle.nodes.specs.Limits.{Built}
+use Rattle.nodes.specs.Compiles.{Answer, table, refused, tableBytes, SoundSheet, PolicyNode, Compiles, faulted, compiled}
+use Rattle.nodes.specs.Building.{typesOf, Progress}
+use Rattle.nodes.proofs.Settling.{well}
+use Rattle.compiler.specs.Calling.{CompilesTo}
+use Rattle.nodes.proofs.WorkSlots.{slot-front}
 
 -- a refusal leaves the output as it was
 pub refuses : {bytes : List ℕ} {valueLimit rowLimit : ℕ} {answer : Answer} → Compiles bytes valueLimit rowLimit answer [] → (out : List ℕ)
@@ -63,47 +58,6 @@ module _ (bytes : List ℕ) (sheet : JudgedSheet) (judges : outcomeOf sheet ≡ 
     pub is-sound : SoundSheet bytes (typesOf bytes (sheet .types))
     is-sound =
         subst (SoundSheet bytes) (take-of-length n (sheet .types) ∙ ap (λ (k : ℕ). take k (sheet .types)) (plain-sheet .counted)) (record { judged = outcome e })
-
--- a sound sheet's areas are in place
-module _ (bytes : List ℕ) (types : List TypedNode) (sheet : SoundSheet bytes types) where
-  well : plain.WellLaid bytes
-  well = sound-sheet bytes (sheet .judged) .laid
-
-  pub not-misplaced : {X : Type 0} {f : Fault} → layoutOf bytes ≡ Misplaced f → X
-  not-misplaced e = absurd (let d = sym (laid bytes well) ∙ e in let z : _≡_ {A = ℕ} 0 1 = cc in omega arith)
-
-  module _ (actions nodes actions-at nodes-at : ℕ) (a : actions ≡ actionCount bytes) (n : nodes ≡ nodeCount bytes) (p : actions-at ≡ actionsAt bytes)
-      (q : nodes-at ≡ nodesAt bytes) where
-    pub settable : (sets : List ℕ) → 64 ≤ length sets → Settable bytes actions nodes actions-at nodes-at sets
-    settable sets room =
-        record {
-          actions-laid = record { count = a; from = p; few = omega (arith, well .few-actions); inside = omega (arith, well .actions-inside, well .whole) };
-          nodes-laid = record {
-            from = q;
-            some = omega (arith, well .some-node);
-            few = omega (arith, well .few-nodes);
-            inside = omega (arith, well .nodes-inside, well .whole);
-          };
-          room = omega (arith, well .few-nodes);
-        }
-
-    formula-kept : (before behind : List ℕ) → behind ≡ setsOf bytes nodes ++ drop nodes before → (i : ℕ) → i < nodeCount bytes
-        → getD behind i 0 ≡ getD (setsOf bytes (nodeCount bytes)) i 0
-    formula-kept before behind e i h =
-        ap (λ (l : List ℕ). getD l i 0) e
-        ∙ List·getD-append (setsOf bytes nodes) (drop nodes before) 0 i (omega (arith, n, length-sets bytes nodes))
-        ∙ ap (λ (k : ℕ). getD (setsOf bytes k) i 0) n
-
--- the types of a judged sheet stand at the front of its array
-pub prepared : (bytes : List ℕ) (array : List TypedNode) (actions nodes actions-at nodes-at : ℕ) → SoundSheet bytes (typesOf bytes array)
-    → actions ≡ actionCount bytes → nodes ≡ nodeCount bytes → actions-at ≡ actionsAt bytes → nodes-at ≡ nodesAt bytes
-    → (before behind : List ℕ) → behind ≡ setsOf bytes nodes ++ drop nodes before → Prepared bytes array behind actions
-prepared bytes array actions nodes actions-at nodes-at sheet a n p q before behind e =
-    record {
-      sound = sheet;
-      count = a;
-      formulas = formula-kept bytes (typesOf bytes array) sheet actions nodes actions-at nodes-at a n p q before behind e;
-    }
 
 -- its last node is a policy
 pub last-is-policy : {X : Type 0} (bytes : List ℕ) (array : List TypedNode) → SoundSheet bytes (typesOf bytes array) → typeAt array (nodeCount bytes - 1) ≡ Formula → X

@@ -2,11 +2,11 @@
 -- Assumes nothing.
 use mathlib.Core.Path.{_≡_, sym, _∙_, ap, subst}
 use mathlib.Core.List.{List, _++_}
-use Prim.Native.Nat.{ℕ, _≤_}
+use Prim.Native.Nat.{ℕ}
 use lib.ListN.{length, take, drop, replicate}
 use lib.Seq.{length-take-le}
-use Rattle.compiler.specs.Compiles.{Answer, Areas, CompilesInto, compiles}
-use Rattle.compiler.specs.Building.{Zeroed, CompilesTo}
+use Rattle.nodes.specs.Compiles.{Answer}
+use Rattle.compiler.specs.Calling.{Areas, CompilesInto, compiles, Zeroed, CompilesTo}
 
 -- a list of one number, by its length
 pub of-length : (n x : ℕ) (before behind : List ℕ) → length before ≡ n → behind ≡ replicate (length before) x → behind ≡ replicate n x

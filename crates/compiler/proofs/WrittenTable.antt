@@ -1,15 +1,14 @@
 -- A table written in two parts: its header to the front of the output, and the entries behind it.
 -- Assumes nothing.
-use mathlib.Core.Path.{_≡_, refl, sym, _∙_, ap}
+use mathlib.Core.Path.{_≡_, refl, _∙_, ap}
 use mathlib.Core.List.{List, [], _∷_, _++_, append-nil}
-use Prim.Native.Nat.{ℕ, _+_, _-_, _≤_}
+use Prim.Native.Nat.{ℕ, _+_, _-_}
 use native.Mathlib.Nat.{le-refl}
-use native.Mathlib.Omega.{arith}
 use lib.ListN.{length, take, drop, length-drop, drop-of-length-le}
 use lib.Seq.{take-at, drop-at, drop-drop}
 use borrow.Rule.Slice.PartMut.{midOf, putMid, postOf}
 use Rattle.base.proofs.Lists.{tail}
-use Rattle.compiler.specs.Compiles.{tableBytes}
+use Rattle.nodes.specs.Compiles.{tableBytes}
 
 module _ (header entries out whole part : List ℕ) (eight : length header ≡ 8) (first : whole ≡ header ++ drop (length header) out)
     (second : part ≡ entries ++ drop (length entries) (midOf 8 (length whole - 8) whole)) where

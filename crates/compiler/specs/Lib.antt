@@ -1,5 +1,2 @@
-pub mod Limits
-pub mod Compiles
-pub mod SheetFacts
-pub mod Building
+pub mod Calling
 pub mod Demands

@@ -1,8 +1,6 @@
-// The compiler: from a rule sheet to its table. Definitions of what it gives are in specs/Compiles.antt.
+// The compiler: from a rule sheet to its table. Definitions of what it gives are in specs/Calling.antt.
 mod call;
-mod nodes;
 mod output;
-mod scratch;
 
 pub use call::compile;
 use sheet::Fault;
@@ -19,11 +17,4 @@ pub enum Compiled {
     Faulty(Fault),
     TooManyValues(usize),
     TooManyRows(usize),
-}
-
-// What building all nodes answers: the rows of the last one, or the node that is over a limit.
-pub enum AllBuilt {
-    Rows(usize),
-    ValuesAt(usize),
-    RowsAt(usize),
 }

@@ -1,10 +1,9 @@
 -- `compile` meets its contract: 14 where an area is too short, and else what compiling gives.
 -- Assumes nothing.
-use mathlib.Core.Path.{_≡_, sym}
+use mathlib.Core.Path.{sym}
 use native.Mathlib.Omega.{arith}
-use lib.ListN.{length, take}
 use lib.Seq.{length-take-le}
-use Rattle.compiler.specs.Compiles.{Areas, CompilesInto, short}
+use Rattle.compiler.specs.Calling.{short}
 use Rattle.compiler.proofs.LentAreas.{into}
 use borrow.Author.Needs.{needs}
 use Rattle.compiler.proofs.call.compile.Statement.{statement}

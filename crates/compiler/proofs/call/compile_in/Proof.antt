@@ -1,9 +1,7 @@
 -- `compile_in` meets its contract: the work area filled, the sheet compiled, both areas zeroed.
 -- Assumes nothing.
-use mathlib.Core.Path.{_≡_, sym, _∙_}
 use native.Mathlib.Omega.{arith}
 use lib.ListN.{length}
-use Rattle.compiler.specs.Building.{LimitsFit}
 use Rattle.compiler.proofs.LentAreas.{of-length}
 use borrow.Author.Needs.{needs}
 use Rattle.compiler.proofs.call.compile_in.Statement.{statement}

@@ -1,22 +1,22 @@
 -- `compile_with` meets its contract: the checks of the sheet, its nodes, and the table of the last one.
 -- Assumes nothing.
-use mathlib.Core.Path.{_≡_, refl, sym, _∙_, ap, subst}
+use mathlib.Core.Path.{_≡_, sym, _∙_, ap, subst}
 use mathlib.Core.List.{List}
-use Prim.Native.Nat.{ℕ, _+_, _*_, _-_, _≤_, _<_}
+use Prim.Native.Nat.{ℕ, _+_, _*_, _-_, _≤_}
 use native.Mathlib.Omega.{arith}
-use lib.ListN.{length, take, drop}
+use lib.ListN.{length}
 use borrow.Rule.Slice.PartMut.{midOf}
 use Rattle.sheet.specs.Sheet.{actionCount, nodeCount, actionsAt, nodesAt}
 use Rattle.sheet.specs.Types.{typeAt}
 use Rattle.sheet.specs.Plain.{WellLaid}
 use Rattle.sheet.specs.declared.TypedNode.{TypedNode}
-use Rattle.sheet.specs.declared.NodeType.the-variants.{Formula, Policy}
+use Rattle.sheet.specs.declared.NodeType.the-variants.{Policy}
 use Rattle.sheet.proofs.Header.{from-laid}
-use Rattle.compiler.specs.Compiles.{SoundSheet}
-use Rattle.compiler.specs.Building.{typesOf, Progress, Finishes}
-use Rattle.compiler.specs.declared.AllBuilt.{AllBuilt}
-use Rattle.compiler.specs.declared.AllBuilt.the-variants.{Rows, ValuesAt, RowsAt}
-use Rattle.compiler.proofs.Finishing.{refuses, is-faulty, is-sound, not-misplaced, last-is-policy, few, size-small, part-inside, part-fits, writes-part}
+use Rattle.nodes.specs.Compiles.{SoundSheet}
+use Rattle.nodes.specs.Building.{typesOf, Progress, Finishes}
+use Rattle.nodes.specs.declared.AllBuilt.{AllBuilt}
+use Rattle.nodes.proofs.Settling.{not-misplaced}
+use Rattle.compiler.proofs.Finishing.{refuses, is-faulty, is-sound, last-is-policy, few, size-small, part-inside, part-fits, writes-part}
 use borrow.Author.Needs.{needs}
 use Rattle.compiler.proofs.call.compile_with.Statement.{statement}
 use Rattle.compiler.proofs.call.compile_with.Tie as tie

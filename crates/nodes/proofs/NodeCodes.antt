@@ -2,19 +2,17 @@
 -- Assumes nothing.
 use mathlib.Core.Path.{_≡_, refl, sym, _∙_, ap, subst}
 use mathlib.Core.Bool.{Bool, true, false}
-use mathlib.Core.List.{List, [], _∷_, _++_}
+use mathlib.Core.List.{List, [], _++_}
 use Prim.Native.Nat.{ℕ, _≤_, _<_}
 use native.Mathlib.Decide.{decLe}
 use native.Mathlib.Omega.{arith}
 use Rattle.trace.specs.declared.Mode.{Mode}
-use Rattle.trace.specs.Trace.{Sequence, Move, trip, go, Step, run, tripped, trips, Alike}
-use Rattle.trace.proofs.Laws.{run-append, sequence-append, not-both}
-use Rattle.automaton.specs.Machine.{transition}
-use Rattle.policy.specs.Rule.{Rule, opening, filtered, onParts}
+use Rattle.trace.specs.Trace.{Sequence, Move, go, Step, run, tripped, trips}
+use Rattle.trace.proofs.Laws.{run-append, sequence-append}
+use Rattle.policy.specs.Rule.{Rule, onParts}
 use Rattle.policy.specs.Parts.{AllParts}
 use Rattle.policy.specs.Closed.{Closed, Sound, answer}
-use Rattle.policy.specs.Value.{Part, Value, partTrips, start, stepOf}
-use Rattle.policy.specs.Agree.{Agree}
+use Rattle.policy.specs.Value.{Part, Value, start}
 use Rattle.sheet.specs.Sheet.{actionCount, nodeCount}
 use Rattle.sheet.specs.declared.TypedNode.{TypedNode}
 use Rattle.rules.specs.Codes.{encode, ValueFits, CountFits, FitRule}
@@ -28,12 +26,12 @@ use Rattle.explore.specs.Explored.{Reached, OverReached}
 use Rattle.build.specs.Builds.{OverStates, RowsFor}
 use Rattle.lower.specs.Nodes.{Tables, partOf, nodeRule, ruleOn, rememberedAt, tripsNode, NodeRows}
 use Rattle.lower.specs.Lowering.{SameRule, opens, filters, equal}
-use Rattle.compiler.specs.Compiles.{PolicyNode}
-use Rattle.compiler.specs.Limits.{SameRow, Many, OverValues, OverRows}
-use Rattle.compiler.specs.SheetFacts.{SheetFacts}
-use Rattle.compiler.proofs.RuleParts.{on-parts-agree}
-use Rattle.compiler.proofs.NodeTheory.{RowsBefore, node-sound, node-trips, node-run}
-use Rattle.compiler.proofs.Link.{same-codes}
+use Rattle.nodes.specs.Compiles.{PolicyNode}
+use Rattle.nodes.specs.Limits.{SameRow, Many, OverValues, OverRows}
+use Rattle.nodes.specs.SheetFacts.{SheetFacts}
+use Rattle.nodes.proofs.RuleParts.{on-parts-agree}
+use Rattle.nodes.proofs.NodeTheory.{RowsBefore, node-sound, node-trips, node-run}
+use Rattle.nodes.proofs.Link.{same-codes}
 
 -- rules that say the same of the actions have the same parts and counts
 module _ {X : Type 0} (actions : ℕ) (Q : X → Type 0) (f : ℕ → X) where

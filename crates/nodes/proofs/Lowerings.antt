@@ -8,13 +8,11 @@ use native.Mathlib.Omega.{arith}
 use lib.ListN.{length, getD}
 use lib.Seq.{getD-take}
 use Rattle.trace.specs.declared.Mode.{Mode}
-use Rattle.policy.specs.declared.Bound.{Bound}
 use Rattle.sheet.specs.Sheet.{actionCount, nodeCount, nodesAt}
 use Rattle.sheet.specs.Node.{nodeOf}
 use Rattle.sheet.specs.Types.{typeAt}
 use Rattle.sheet.specs.Plain as plain
 use Rattle.sheet.specs.declared.Node.{Node}
-use Rattle.sheet.specs.declared.NodeRead.{NodeRead}
 use Rattle.sheet.specs.declared.NodeType.{NodeType}
 use Rattle.sheet.specs.declared.NodeType.the-variants.{Formula, Policy}
 use Rattle.sheet.specs.declared.TypedNode.{TypedNode}
@@ -29,9 +27,9 @@ use Rattle.lower.specs.Lowering.{setsOf, lowered, SameRule, FieldsLaid}
 use Rattle.lower.specs.declared.Lowered.{Lowered}
 use Rattle.lower.specs.declared.Lowered.the-variants.{AsRule, AsFormula}
 use Rattle.lower.proofs.LoweredRight.{lowered-local, lowered-formula, lowered-policy, lowered-right}
-use Rattle.compiler.specs.Compiles.{PolicyNode}
-use Rattle.compiler.specs.Building.{loweredRead, typesOf, BuildsAt, LimitsFit, Rooms, Prepared, Progress, Begun, Advances}
-use Rattle.compiler.proofs.Progressing.{passes, steppable, answers}
+use Rattle.nodes.specs.Compiles.{PolicyNode}
+use Rattle.nodes.specs.Building.{loweredRead, typesOf, BuildsAt, LimitsFit, Rooms, Prepared, Progress, Begun, Advances}
+use Rattle.nodes.proofs.Progressing.{passes, steppable, answers}
 
 -- a rule is no formula
 not-both-lowered : {X : Type 0} {r : Rule} → AsRule r ≡ AsFormula → X

@@ -2,15 +2,14 @@
 -- Assumes nothing.
 use mathlib.Core.Path.{_≡_}
 use native.Mathlib.Omega.{arith}
-use lib.ListN.{length}
 use Rattle.sheet.specs.Sheet.{actionCount, nodeCount, actionsAt, nodesAt}
-use Rattle.compiler.specs.Compiles.{SoundSheet}
-use Rattle.compiler.specs.Building.{typesOf}
-use Rattle.compiler.proofs.Progressing.{begins}
-use Rattle.compiler.proofs.Finishing.{settable, prepared}
+use Rattle.nodes.specs.Compiles.{SoundSheet}
+use Rattle.nodes.specs.Building.{typesOf}
+use Rattle.nodes.proofs.Progressing.{begins}
+use Rattle.nodes.proofs.Settling.{settable, prepared}
 use borrow.Author.Needs.{needs}
-use Rattle.compiler.proofs.call.build_sheet.Statement.{statement}
-use Rattle.compiler.proofs.call.build_sheet.Tie as tie
+use Rattle.nodes.proofs.sheets.build_sheet.Statement.{statement}
+use Rattle.nodes.proofs.sheets.build_sheet.Tie as tie
 
 -- what is lent
 module _ (c : tie.Start) where

@@ -1,43 +1,40 @@
 -- Building goes from node to node: what the slots hold is what the nodes before need, and each answer says what compiling gives.
 -- Assumes nothing.
 use mathlib.Core.Path.{_≡_, refl, sym, _∙_, ap, subst, fun-ext}
-use mathlib.Core.List.{List, [], _∷_, _++_}
-use Prim.Native.Nat.{ℕ, suc, _+_, _*_, _-_, _≤_, _<_}
+use mathlib.Core.List.{List, []}
+use Prim.Native.Nat.{ℕ, suc, _+_, _*_, _≤_, _<_}
 use native.Mathlib.Decide.{ℕ-discrete, decLt}
 use native.Mathlib.Numerals.{add-one}
 use native.Mathlib.Omega.{arith}
-use lib.ListN.{length, getD, take, drop, replicate, List·getD-eq-default, length-replicate}
-use lib.Seq.{getD-take}
+use lib.ListN.{length, getD, replicate, List·getD-eq-default, length-replicate}
 use Rattle.trace.specs.declared.Mode.{Mode}
 use Rattle.trace.specs.Trace.{Step}
-use Rattle.automaton.specs.Machine.{transition, entryMove, Machine}
-use Rattle.policy.specs.Value.{Part}
+use Rattle.automaton.specs.Machine.{entryMove}
 use Rattle.policy.specs.Parts.{AllParts}
 use Rattle.sheet.specs.Sheet.{actionCount, nodeCount}
 use Rattle.sheet.specs.Types.{typeAt}
 use Rattle.sheet.specs.declared.TypedNode.{TypedNode}
-use Rattle.sheet.specs.declared.NodeType.the-variants.{Formula, Policy}
+use Rattle.sheet.specs.declared.NodeType.the-variants.{Formula}
 use Rattle.lower.proofs.NodeTypes.{not-policy}
 use Rattle.rules.specs.Rules.{slotAt, partAt, ruleOver, Readable, Steppable}
 use Rattle.rules.specs.Steps.{codeStep, codeStart}
 use Rattle.rules.specs.declared.Rule as D
 use Rattle.explore.specs.Explored.{OverReached}
-use Rattle.build.specs.Builds.{RowsFor}
 use Rattle.build.specs.declared.NodeBuilt.{NodeBuilt}
 use Rattle.build.specs.declared.NodeBuilt.the-variants.{Rows, TooManyValues, TooManyRows}
 use Rattle.lower.specs.Nodes.{Tables, partOf, nodeRule, NodeRows}
 use Rattle.lower.specs.Lowering.{SameRule}
-use Rattle.compiler.specs.Limits.{Built, OverValues}
-use Rattle.compiler.specs.Compiles.{Compiles, refused, SoundSheet, PolicyNode, BuiltBefore, over-values, over-rows}
-use Rattle.compiler.specs.SheetFacts.{EarlierPolicy, SheetFacts}
-use Rattle.compiler.specs.Building.{LimitsFit, SlotWritten, RowsInSlot, BuildsAt, Progress, Advances, Fresh}
-use Rattle.compiler.proofs.RuleParts.{all-map}
-use Rattle.compiler.proofs.NodeTheory.{RowsBefore, RowsAt, built-rows}
-use Rattle.compiler.proofs.NodeCodes as codes
-use Rattle.compiler.proofs.PartRows.{entry-below}
-use Rattle.compiler.proofs.Unique.{AgreeBefore, over-values-same}
-use Rattle.compiler.proofs.Facts.{facts-of}
-use Rattle.compiler.proofs.WorkSlots.{fresh-slot}
+use Rattle.nodes.specs.Limits.{Built, OverValues}
+use Rattle.nodes.specs.Compiles.{Compiles, refused, SoundSheet, PolicyNode, over-values, over-rows}
+use Rattle.nodes.specs.SheetFacts.{EarlierPolicy, SheetFacts}
+use Rattle.nodes.specs.Building.{LimitsFit, RowsInSlot, BuildsAt, Progress, Advances, Fresh}
+use Rattle.nodes.proofs.RuleParts.{all-map}
+use Rattle.nodes.proofs.NodeTheory.{RowsBefore, RowsAt, built-rows}
+use Rattle.nodes.proofs.NodeCodes as codes
+use Rattle.nodes.proofs.PartRows.{entry-below}
+use Rattle.nodes.proofs.Unique.{AgreeBefore, over-values-same}
+use Rattle.nodes.proofs.Facts.{facts-of}
+use Rattle.nodes.proofs.WorkSlots.{fresh-slot}
 
 -- before the first node
 pub begins : (bytes : List ℕ) (types : List TypedNode) (valueLimit rowLimit : ℕ) (work : List ℕ) → Fresh work

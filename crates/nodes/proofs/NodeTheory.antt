@@ -23,11 +23,11 @@ use Rattle.sheet.specs.Sheet.{actionCount, nodeCount, propositionsOf}
 use Rattle.sheet.specs.Meaning.{nodePolicy}
 use Rattle.sheet.specs.declared.TypedNode.{TypedNode}
 use Rattle.lower.specs.Nodes.{tripsNode, nodeRule, Tables, partOf, ruleOn, rememberedAt, NodeRows}
-use Rattle.compiler.specs.Limits.{Built}
-use Rattle.compiler.specs.Compiles.{PolicyNode, BuiltBefore}
-use Rattle.compiler.specs.SheetFacts.{EarlierPolicy, NodeFacts, SheetFacts}
-use Rattle.compiler.proofs.RuleParts.{all-map, all-onto, on-parts-compose, count-positive}
-use Rattle.compiler.proofs.PartRows.{rows-closed}
+use Rattle.nodes.specs.Limits.{Built}
+use Rattle.nodes.specs.Compiles.{PolicyNode, BuiltBefore}
+use Rattle.nodes.specs.SheetFacts.{EarlierPolicy, NodeFacts, SheetFacts}
+use Rattle.nodes.proofs.RuleParts.{all-map, all-onto, on-parts-compose, count-positive}
+use Rattle.nodes.proofs.PartRows.{rows-closed}
 
 -- Node i has its rows, at most 64 of them.
 pub record RowsAt (bytes : List ℕ) (tables : Tables) (i : ℕ) : Type 0 where

@@ -10,10 +10,10 @@ use borrow.Rule.Slice.PartMut.{mid-len}
 use Rattle.trace.specs.Trace.{Step}
 use Rattle.rules.specs.Steps.{codeStep, codeStart}
 use Rattle.build.specs.Builds.{BuildsTo}
-use Rattle.compiler.proofs.StoredRows.{built-over, built-many, few-entries, entries-room, rows-in-slot}
+use Rattle.nodes.proofs.StoredRows.{built-over, built-many, few-entries, entries-room, rows-in-slot}
 use borrow.Author.Needs.{needs}
-use Rattle.compiler.proofs.nodes.build_at.Statement.{statement}
-use Rattle.compiler.proofs.nodes.build_at.Tie as tie
+use Rattle.nodes.proofs.each.build_at.Statement.{statement}
+use Rattle.nodes.proofs.each.build_at.Tie as tie
 
 build-node-requires : tie.Need-build-node-requires
 build-node-requires c κs = search needs

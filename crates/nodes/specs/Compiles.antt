@@ -1,34 +1,24 @@
 -- What compiling a sheet gives: one way out a line, in document 01's order.
 -- Assumes nothing.
 use mathlib.Core.Path.{_≡_}
-use mathlib.Core.List.{List, [], _∷_, _++_}
-use Prim.Native.Nat.{ℕ, _-_, _≤_, _<_}
-use lib.ListN.{length, drop, replicate}
+use mathlib.Core.List.{List, [], _∷_}
+use Prim.Native.Nat.{ℕ, _-_, _<_}
 use Rattle.trace.specs.declared.Mode.{Mode}
 use Rattle.policy.specs.declared.Bound.{Bound}
 use Rattle.table.specs.Answer.{modeNumber}
 use Rattle.sheet.specs.Sheet.{actionCount, nodeCount}
 use Rattle.sheet.specs.Types.{typeAt}
-use Rattle.sheet.specs.Judge.{Outcome, faulty, sound, judge, numberOf, spotOf}
+use Rattle.sheet.specs.Judge.{faulty, sound, judge, numberOf, spotOf}
 use Rattle.sheet.specs.declared.TypedNode.{TypedNode}
 use Rattle.sheet.specs.declared.Fault.{Fault}
 use Rattle.sheet.specs.declared.NodeType.the-variants.{Policy}
 use Rattle.lower.specs.Nodes.{Tables}
-use Rattle.compiler.specs.Limits.{OverValues, OverRows, Built}
-use Rattle.compiler.specs.declared.Compiled.{Compiled}
-use Rattle.compiler.specs.declared.Compiled.the-variants.{Table, ShortArea, Faulty, TooManyValues, TooManyRows}
+use Rattle.nodes.specs.Limits.{OverValues, OverRows, Built}
 
 -- An answer in document 01's terms: a table's type, actions and rows, or a refusal's number and spot.
 pub data Answer : Type 0 where
   table : (type actions rows : ℕ) → Answer
   refused : (number spot : ℕ) → Answer
-
-abbrev pub answerOf : Compiled → Answer
-answerOf (Table mode actions rows) = table (modeNumber mode) actions rows
-answerOf ShortArea = refused 14 0
-answerOf (Faulty f) = refused (numberOf f) (spotOf f)
-answerOf (TooManyValues n) = refused 8 n
-answerOf (TooManyRows n) = refused 9 n
 
 -- The bytes of a table.
 abbrev pub tableBytes : (type actions rows : ℕ) → List ℕ → List ℕ
@@ -66,16 +56,3 @@ pub data Compiles (bytes : List ℕ) (valueLimit rowLimit : ℕ) : Answer → Li
       → (b : Built bytes tables valueLimit rowLimit (nodeCount bytes - 1))
       → Compiles bytes valueLimit rowLimit (table (modeNumber mode) (actionCount bytes) (b .rows))
       (tableBytes (modeNumber mode) (actionCount bytes) (b .rows) (tables (nodeCount bytes - 1)))
-
--- The lent areas are long enough.
-pub record Areas (out work values : List ℕ) : Type 0 where
-  pub output : 1032 ≤ length out
-  pub bytes : 65536 ≤ length work
-  pub numbers : 1024 ≤ length values
-
--- The public call: the answer, and every byte of the lent areas.
-pub data CompilesInto (bytes out work values : List ℕ) : Answer → List ℕ → List ℕ → List ℕ → Type 0 where
-  short : (Areas out work values → ⊥) → CompilesInto bytes out work values (refused 14 0) out work values
-  compiles : Areas out work values → (answer : Answer) (written : List ℕ) → Compiles bytes 1024 64 answer written
-      → CompilesInto bytes out work values answer (written ++ drop (length written) out)
-      (replicate 65536 0 ++ drop 65536 work) (replicate 1024 0 ++ drop 1024 values)

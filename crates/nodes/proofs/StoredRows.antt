@@ -1,20 +1,20 @@
 -- The rows of a node, copied from the scratch list to its slot.
 -- Assumes nothing.
-use mathlib.Core.Path.{_≡_, sym, _∙_, ap, subst}
+use mathlib.Core.Path.{_≡_, _∙_, ap, subst}
 use mathlib.Core.List.{List, _++_}
-use Prim.Native.Nat.{ℕ, _+_, _*_, _-_, _≤_, _<_}
+use Prim.Native.Nat.{ℕ, _+_, _*_, _-_, _≤_}
 use native.Mathlib.Nat.{mul-le-mul, mul-le-mul-right, le-trans}
 use native.Mathlib.Omega.{arith}
 use lib.ListN.{length, take, drop}
-use lib.Seq.{take-at, length-take-le}
+use lib.Seq.{take-at}
 use borrow.Rule.Slice.PartMut.{midOf, putMid}
 use Rattle.trace.specs.Trace.{Step}
 use Rattle.explore.specs.Explored.{OverReached}
 use Rattle.build.specs.Builds.{BuildsTo, OverStates, Written}
 use Rattle.build.specs.declared.NodeBuilt.{NodeBuilt}
 use Rattle.build.specs.declared.NodeBuilt.the-variants.{Rows, TooManyValues, TooManyRows}
-use Rattle.compiler.specs.Building.{RowsInSlot}
-use Rattle.compiler.proofs.WorkSlots.{stored-slot}
+use Rattle.nodes.specs.Building.{RowsInSlot}
+use Rattle.nodes.proofs.WorkSlots.{stored-slot}
 
 module _ (actions : ℕ) (step : Step ℕ) (start valueLimit rowLimit : ℕ) (built : NodeBuilt) (before behind : List ℕ)
     (builds : BuildsTo actions step start valueLimit rowLimit built before behind) where

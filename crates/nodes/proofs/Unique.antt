@@ -18,11 +18,11 @@ use Rattle.policy.specs.Closed.{Below}
 use Rattle.sheet.specs.Sheet.{actionCount, nodeCount}
 use Rattle.sheet.specs.declared.TypedNode.{TypedNode}
 use Rattle.lower.specs.Nodes.{tripsNode, nodeRule, Tables, partOf, ruleOn, NodeRows}
-use Rattle.compiler.specs.Limits.{SameRow, Many, OverValues, OverRows}
-use Rattle.compiler.specs.Compiles.{PolicyNode}
-use Rattle.compiler.specs.SheetFacts.{EarlierPolicy, SheetFacts}
-use Rattle.compiler.proofs.RuleParts.{all-map, on-parts-agree}
-use Rattle.compiler.proofs.PartRows.{run-below}
+use Rattle.nodes.specs.Limits.{SameRow, Many, OverValues, OverRows}
+use Rattle.nodes.specs.Compiles.{PolicyNode}
+use Rattle.nodes.specs.SheetFacts.{EarlierPolicy, SheetFacts}
+use Rattle.nodes.proofs.RuleParts.{all-map, on-parts-agree}
+use Rattle.nodes.proofs.PartRows.{run-below}
 
 module _ {bytes : List ℕ} {n rows rows' : ℕ} {entries entries' : List ℕ} (acts : 0 < actionCount bytes)
     (one : NodeRows bytes n rows entries) (other : NodeRows bytes n rows' entries') where

@@ -1,14 +1,14 @@
 -- `build_next` meets its contract: a formula is passed over, and a policy node is built.
 -- Assumes nothing.
-use mathlib.Core.Path.{_≡_, sym, _∙_}
+use mathlib.Core.Path.{sym, _∙_}
 use native.Mathlib.Omega.{arith}
 use Prim.Native.Nat.{_<_}
 use Rattle.sheet.specs.Sheet.{nodeCount}
-use Rattle.compiler.specs.Building.{typesOf, LimitsFit, Rooms, Prepared, Begun}
-use Rattle.compiler.proofs.Lowerings.{formula-passes, buildable, policy-advances}
+use Rattle.nodes.specs.Building.{typesOf, LimitsFit, Rooms, Prepared, Begun}
+use Rattle.nodes.proofs.Lowerings.{formula-passes, buildable, policy-advances}
 use borrow.Author.Needs.{needs}
-use Rattle.compiler.proofs.nodes.build_next.Statement.{statement}
-use Rattle.compiler.proofs.nodes.build_next.Tie as tie
+use Rattle.nodes.proofs.each.build_next.Statement.{statement}
+use Rattle.nodes.proofs.each.build_next.Tie as tie
 
 module _ (c : tie.After-rule-of) where
   abbrev start : tie.Start

@@ -1,15 +1,15 @@
 -- The slots of the work area: 1,024 bytes a node.
 -- Assumes nothing.
-use mathlib.Core.Path.{_≡_, refl, sym, _∙_, ap, subst}
-use mathlib.Core.List.{List, [], _∷_, _++_}
+use mathlib.Core.Path.{_≡_, sym, _∙_, ap, subst}
+use mathlib.Core.List.{List, [], _++_}
 use Prim.Native.Nat.{ℕ, _+_, _*_, _-_, _≤_, _<_}
-use native.Mathlib.Decide.{decLt, ℕ-discrete}
+use native.Mathlib.Decide.{decLt}
 use native.Mathlib.Omega.{arith}
 use lib.ListN.{length, getD, take, drop, replicate, length-take, length-drop, length-append, length-replicate, getD-replicate, List·getD-eq-default, List·getD-append}
 use borrow.Rule.Slice.PartMut.{midOf, putMid, post-is}
 use lib.Seq.{getD-take, getD-drop, getD-append-add, length-take-le, ext-getD}
 use Rattle.rules.specs.Rules.{slotAt}
-use Rattle.compiler.specs.Building.{SlotWritten}
+use Rattle.nodes.specs.Building.{SlotWritten}
 
 -- an entry of a slot is a byte of the work area, and past its 1,024 bytes a slot has none
 slot-byte : (work : List ℕ) (i k : ℕ) → k < 1024 → getD (slotAt work i) k 255 ≡ getD work (i * 1024 + k) 255

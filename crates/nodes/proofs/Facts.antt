@@ -14,9 +14,9 @@ use Rattle.sheet.specs.declared.NodeType.the-variants.{Policy}
 use Rattle.sheet.proofs.Sound.{sound-sheet}
 use Rattle.lower.specs.Nodes.{nodeRule}
 use Rattle.lower.proofs.Facts.{node-type, node-rule, node-parts, counting-fits, timed-fits}
-use Rattle.compiler.specs.Compiles.{SoundSheet, PolicyNode}
+use Rattle.nodes.specs.Compiles.{SoundSheet, PolicyNode}
 use Rattle.rules.specs.Codes.{CountFits}
-use Rattle.compiler.specs.SheetFacts.{EarlierPolicy, NodeFacts, SheetFacts, FactsOf}
+use Rattle.nodes.specs.SheetFacts.{EarlierPolicy, NodeFacts, SheetFacts, FactsOf}
 
 module _ (bytes : List ℕ) (types : List TypedNode) (sheet : plain.SoundSheet bytes types) where
   module _ (n : ℕ) (below : n < nodeCount bytes) where

@@ -1,14 +1,13 @@
 -- A node's machine of remembered values, held as numbers: read from its start it goes through the numbers of what the node remembers.
 -- Assumes nothing.
-use mathlib.Core.Path.{_≡_, refl, sym, _∙_, ap, subst}
-use mathlib.Core.Bool.{Bool, true, false, cond}
-use mathlib.Core.List.{List, [], _∷_, _++_}
-use Prim.Native.Nat.{ℕ, _≤_, _<_}
-use Rattle.trace.specs.Trace.{Sequence, Move, trip, go, Step, after, run, tripped, trips}
+use mathlib.Core.Path.{_≡_, refl, sym, _∙_, ap}
+use mathlib.Core.Bool.{Bool, cond}
+use mathlib.Core.List.{List, [], _∷_}
+use Prim.Native.Nat.{ℕ, _<_}
+use Rattle.trace.specs.Trace.{Sequence, Move, trip, go, Step, after, run}
 use Rattle.policy.specs.Rule.{Rule, opening, filtered, onParts}
-use Rattle.policy.specs.Value.{Part, Opening, fresh, spent, Value, start, stepOf, stepOpening}
-use Rattle.rules.specs.Codes.{encode}
-use Rattle.rules.specs.Steps.{encodeMove, codeStepOf}
+use Rattle.policy.specs.Value.{Part, Opening, fresh, spent, start, stepOf, stepOpening}
+use Rattle.rules.specs.Steps.{encodeMove}
 use Rattle.lower.specs.Lowering.{SameRule, opens, filters, equal}
 
 -- two machines that move alike under every action of the list read alike

@@ -1,17 +1,15 @@
 -- `rule_of` meets its contract.
 -- Assumes nothing.
 use mathlib.Core.Path.{_≡_, sym, ap, _∙_}
-use mathlib.Core.List.{List}
-use Prim.Native.Nat.{ℕ}
 use lib.ListN.{getD}
 use Rattle.sheet.specs.Node.{nodeOf}
 use Rattle.sheet.specs.Types.{typeAt}
 use Rattle.sheet.specs.declared.NodeRead.{NodeRead}
 use Rattle.sheet.proofs.Outcomes.{node-at}
-use Rattle.compiler.specs.Building.{loweredRead}
+use Rattle.nodes.specs.Building.{loweredRead}
 use borrow.Author.Needs.{needs}
-use Rattle.compiler.proofs.nodes.rule_of.Statement.{statement}
-use Rattle.compiler.proofs.nodes.rule_of.Tie as tie
+use Rattle.nodes.proofs.each.rule_of.Statement.{statement}
+use Rattle.nodes.proofs.each.rule_of.Tie as tie
 
 module _ (c : tie.After-read-node) where
   abbrev start : tie.Start

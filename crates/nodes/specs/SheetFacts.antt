@@ -9,7 +9,7 @@ use Rattle.trace.specs.declared.Mode.{Mode}
 use Rattle.policy.specs.declared.Bound.{Bound}
 use Rattle.policy.specs.declared.Typing.the-variants.{Typed}
 use Rattle.policy.specs.Typing.{typeOf}
-use Rattle.policy.specs.Rule.{Rule, opening, counting, same, both, either, copied, until, then, timed, filtered, onParts, ruleOf}
+use Rattle.policy.specs.Rule.{onParts, ruleOf}
 use Rattle.policy.specs.Parts.{AllParts}
 use Rattle.sheet.specs.Sheet.{actionCount, nodeCount, propositionsOf}
 use Rattle.sheet.specs.Node.{nodeOf}
@@ -18,7 +18,7 @@ use Rattle.sheet.specs.declared.TypedNode.{TypedNode}
 use Rattle.sheet.specs.declared.Node.{Node}
 use Rattle.sheet.specs.declared.NodeRead.the-variants.{Read}
 use Rattle.lower.specs.Nodes.{nodeRule}
-use Rattle.compiler.specs.Compiles.{SoundSheet, PolicyNode}
+use Rattle.nodes.specs.Compiles.{SoundSheet, PolicyNode}
 
 -- A part of node n: a policy node before it.
 pub record EarlierPolicy (types : List TypedNode) (n i : ℕ) : Type 0 where

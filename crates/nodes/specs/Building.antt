@@ -1,9 +1,9 @@
 -- Building the nodes of a sound sheet one after the other, each in its slot of the work area: what is lent, and what each step gives.
 -- Assumes nothing.
 use mathlib.Core.Path.{_≡_}
-use mathlib.Core.List.{List, [], _++_}
-use Prim.Native.Nat.{ℕ, suc, _*_, _≤_, _<_}
-use lib.ListN.{length, getD, take, drop, replicate}
+use mathlib.Core.List.{List, []}
+use Prim.Native.Nat.{ℕ, suc, _≤_, _<_}
+use lib.ListN.{length, getD, take, replicate}
 use Rattle.trace.specs.Trace.{Step}
 use Rattle.trace.specs.declared.Mode.{Mode}
 use Rattle.sheet.specs.Sheet.{actionCount, nodeCount}
@@ -20,9 +20,9 @@ use Rattle.lower.specs.Nodes.{Tables, NodeRows}
 use Rattle.lower.specs.Lowering.{setsOf, lowered}
 use Rattle.lower.specs.declared.Lowered.{Lowered}
 use Rattle.lower.specs.declared.Lowered.the-variants.{AsFormula}
-use Rattle.compiler.specs.Compiles.{Answer, refused, SoundSheet, PolicyNode, BuiltBefore, Compiles}
-use Rattle.compiler.specs.declared.AllBuilt.{AllBuilt}
-use Rattle.compiler.specs.declared.AllBuilt.the-variants.{Rows as AllRows, ValuesAt, RowsAt}
+use Rattle.nodes.specs.Compiles.{refused, SoundSheet, PolicyNode, BuiltBefore, Compiles}
+use Rattle.nodes.specs.declared.AllBuilt.{AllBuilt}
+use Rattle.nodes.specs.declared.AllBuilt.the-variants.{Rows as AllRows, ValuesAt, RowsAt}
 
 -- What a node is lowered to, as it is read.
 abbrev pub loweredRead : (ℕ → NodeType) → (ℕ → ℕ) → NodeRead → Lowered
@@ -100,16 +100,6 @@ Finishes bytes types valueLimit rowLimit (AllRows last) work = Progress bytes ty
 Finishes bytes types valueLimit rowLimit (ValuesAt n) work = Compiles bytes valueLimit rowLimit (refused 8 n) []
 Finishes bytes types valueLimit rowLimit (RowsAt n) work = Compiles bytes valueLimit rowLimit (refused 9 n) []
 
--- What compiling with any limits gives: the answer, and the table's bytes at the front of the output.
-pub record CompilesTo (bytes : List ℕ) (valueLimit rowLimit : ℕ) (answer : Answer) (before behind : List ℕ) : Type 0 where
-  pub written : List ℕ
-  pub compiles : Compiles bytes valueLimit rowLimit answer written
-  pub front : behind ≡ written ++ drop (length written) before
-
 -- The work area before the first node.
 abbrev pub Fresh : List ℕ → Type 0
 Fresh work = work ≡ replicate 65536 255
-
--- A work area zeroed over its length.
-abbrev pub Zeroed : List ℕ → List ℕ → Type 0
-Zeroed before behind = behind ≡ replicate (length before) 0

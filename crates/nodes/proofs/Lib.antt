@@ -1,0 +1,12 @@
+pub mod RuleParts
+pub mod PartRows
+pub mod NodeTheory
+pub mod Unique
+pub mod Link
+pub mod NodeCodes
+pub mod Facts
+pub mod WorkSlots
+pub mod StoredRows
+pub mod Progressing
+pub mod Lowerings
+pub mod Settling

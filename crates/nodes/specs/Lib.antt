@@ -1,0 +1,4 @@
+pub mod Limits
+pub mod Compiles
+pub mod SheetFacts
+pub mod Building
