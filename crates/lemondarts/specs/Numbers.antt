@@ -1,0 +1,37 @@
+-- Answers as one number of 32 bits: the number of the answer, a value, a count of actions and a count of rows, a byte each, lowest first.
+-- Assumes nothing.
+use mathlib.Core.Path.{_≡_}
+use mathlib.Core.Bool.{Bool, true, false}
+use Prim.Native.Nat.{ℕ, _+_, _*_, _%_}
+use Rattle.table.specs.Answer.{Answer, accepted, refused}
+use Rattle.board.specs.Calls.{Reply, done, permitted, denied, input, state}
+
+-- Four bytes. What the calls answer is below 256 in each (proofs/Fields.antt), so nothing is lost.
+abbrev pub pack : (number value actions rows : ℕ) → ℕ
+pack number value actions rows = number % 256 + 256 * (value % 256) + 65536 * (actions % 256) + 16777216 * (rows % 256)
+
+-- Number 0 is done and 255 is denied; any other is the refusal's number of document 01, its value the spot.
+abbrev pub packedReply : Reply → ℕ
+packedReply done = pack 0 0 0 0
+packedReply (permitted fulfilled) = pack 0 fulfilled 0 0
+packedReply (denied place) = pack 255 place 0 0
+packedReply (input number spot) = pack number spot 0 0
+packedReply (state number) = pack number 0 0 0
+
+-- The loader's answer: for a table its type, actions and rows.
+abbrev pub packedAnswer : Answer → ℕ
+packedAnswer (accepted type actions rows) = pack 0 type actions rows
+packedAnswer (refused number spot) = pack number spot 0 0
+
+-- Whether an answer changes the board: a refusal and a denial do not.
+abbrev pub changes : Reply → Bool
+changes done = true
+changes (permitted fulfilled) = true
+changes (denied place) = false
+changes (input number spot) = false
+changes (state number) = false
+
+-- An answer's number, and whether it changes the board.
+pub record AnswerIs (reply : Reply) (number : ℕ) (changed : Bool) : Type 0 where
+  pub packs : number ≡ packedReply reply
+  pub tells : changed ≡ changes reply

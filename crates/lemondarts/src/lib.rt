@@ -1,0 +1,16 @@
+// The public calls for C: numbers and byte slices only, a board as 16 bytes, an answer as one number. include/lemondarts.h declares them.
+mod calls;
+mod encoding;
+mod numbers;
+
+pub use calls::lemondarts_action;
+pub use calls::lemondarts_load;
+pub use calls::lemondarts_new_board;
+pub use calls::lemondarts_put_on;
+pub use calls::lemondarts_take_off;
+
+// An answer's number, and whether the answer changes the board.
+pub struct Answer {
+    pub number: u32,
+    pub changes: bool,
+}
