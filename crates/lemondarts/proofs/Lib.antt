@@ -1,2 +1,6 @@
 pub mod Decoding
 pub mod Returning
+pub mod ReadBack
+pub mod Kept
+pub mod Answers
+pub mod Sessions

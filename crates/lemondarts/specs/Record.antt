@@ -1,10 +1,11 @@
 -- A board as 16 bytes, two a place: the case (0 empty, 1 enforced, 2 watched, 3 fulfilled) and the row.
 -- Assumes nothing.
+use mathlib.Core.Path.{_≡_}
 use mathlib.Core.Bool.{cond}
 use mathlib.Core.List.{List, [], _∷_}
-use Prim.Native.Nat.{ℕ, _%_}
+use Prim.Native.Nat.{ℕ, _%_, _<_}
 use lib.Dec.{eqb}
-use lib.ListN.{getD}
+use lib.ListN.{length, getD}
 use Rattle.board.specs.Places.{caseAt}
 use Rattle.board.specs.declared.Case.{Case}
 use Rattle.board.specs.declared.Case.the-variants.{Empty, Enforced, Watched, Fulfilled}
@@ -37,7 +38,7 @@ caseByte (Enforced row) = 1
 caseByte (Watched row) = 2
 caseByte Fulfilled = 3
 
--- Rows are below 256 on every board that a call leaves (proofs/ReadBack.antt).
+-- A row of a board that a call leaves is below 256 (proofs/Kept.antt), so nothing is lost.
 abbrev pub rowByte : Case → ℕ
 rowByte Empty = 0
 rowByte (Enforced row) = row % 256
@@ -51,3 +52,15 @@ recordOf board =
     ∷ caseByte (caseAt board 2) ∷ rowByte (caseAt board 2) ∷ caseByte (caseAt board 3) ∷ rowByte (caseAt board 3)
     ∷ caseByte (caseAt board 4) ∷ rowByte (caseAt board 4) ∷ caseByte (caseAt board 5) ∷ rowByte (caseAt board 5)
     ∷ caseByte (caseAt board 6) ∷ rowByte (caseAt board 6) ∷ caseByte (caseAt board 7) ∷ rowByte (caseAt board 7) ∷ []
+
+-- A board that its bytes can hold: eight places, and every row is below 256. Reading back what was written gives the same board
+-- (proofs/ReadBack.antt).
+abbrev pub RowFits : Case → Type 0
+RowFits Empty = Unit {0}
+RowFits (Enforced row) = row < 256
+RowFits (Watched row) = row < 256
+RowFits Fulfilled = Unit {0}
+
+pub record Fits (board : Board) : Type 0 where
+  pub eight : length (board .places) ≡ 8
+  pub rows : (i : ℕ) → i < 8 → RowFits (caseAt board i)
