@@ -45,8 +45,8 @@ first-fits type = chosen (eqb type 1)
 -- an entry is a row's number, or 255
 entry-fits : (table : List ℕ) → WellFormed table → (row action : ℕ) → entryAt table row action < 256
 entry-fits table f row action = elim (decLt k (rowsOf table * actionsOf table)) [
-  yes h ↦ elim (ℕ-discrete (getD (entriesOf table) k 255) 255) [
-    yes e ↦ omega arith
+  | yes h ↦ elim (ℕ-discrete (getD (entriesOf table) k 255) 255) [
+    | yes e ↦ omega arith
     | no n ↦ omega (arith, f .entries k h n, f .header .rows-high)
   ]
   | no h ↦ omega (arith, List·getD-eq-default (entriesOf table) 255 {n = k} (omega (arith, f .whole, length-drop 8 table)))
@@ -74,7 +74,7 @@ module _ (board : Board) (area : List ℕ) (eight : length (board .places) ≡ 8
     where
       each : (i : ℕ) → i < 8 → RowFits (caseAt (withCase board place c) i)
       each i h = elim (ℕ-discrete i place) [
-        yes e ↦ subst (λ (k : ℕ). RowFits (caseAt (withCase board place c) k)) (sym e) (subst RowFits (sym (case-with board place c eight (omega arith))) f)
+        | yes e ↦ subst (λ (k : ℕ). RowFits (caseAt (withCase board place c) k)) (sym e) (subst RowFits (sym (case-with board place c eight (omega arith))) f)
         | no n ↦ subst RowFits (sym (case-with-other board place c eight i n)) (row-fits (tableAt area i) (caseAt board i) (p .fits i h))
       ]
 

@@ -43,14 +43,14 @@ keeps event {events} bytes {left} {reply} next read long e k h = record {
   long = subst (λ (n : ℕ). 16 ≤ n) (sym (record-length bytes reply next long)) long;
   history =
       subst (λ (r : Reply). History (event r ∷ events) (boardOf (recordAfter bytes reply next)) left) (sym e)
-      (subst (λ (b : Board). History (event reply ∷ events) b left) (sym k) h)
+      (subst (λ (b : Board). History (event reply ∷ events) b left) (sym k) h);
 }
 
 begins : {lent old bytes area : List ℕ} {returned : ℕ} → NewBoardReturns old lent returned bytes area → returned ≡ 0 → Holds [] bytes area
 begins (short-record n) e = absurd (omega arith)
 begins {lent} {old} (called long reply next left (made w)) e = record {
   long = subst (λ (n : ℕ). 16 ≤ n) (sym (record-length old done emptyBoard long)) long;
-  history = subst (λ (b : Board). History [] b left) (sym (made-kept old)) (new {lent = lent} (made w))
+  history = subst (λ (b : Board). History [] b left) (sym (made-kept old)) (new {lent = lent} (made w));
 }
 begins (called long reply next left (make-14 n)) e = absurd (omega arith)
 

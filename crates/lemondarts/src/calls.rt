@@ -28,8 +28,8 @@ pub extern "C" fn lemondarts_new_board(bytes: &mut [u8], area: &mut [u8]) -> u32
     let next = made.board;
     let reply = made.answer;
     let answer = made_answer(reply);
-    write_board(bytes, next, answer.changes);
-    answer.number
+    write_board(bytes, next, answer.1);
+    answer.0
 }
 
 // Puts a table on a place.
@@ -49,8 +49,8 @@ pub extern "C" fn lemondarts_put_on(
     let next = put.board;
     let reply = put.answer;
     let answer = put_answer(reply);
-    write_board(bytes, next, answer.changes);
-    answer.number
+    write_board(bytes, next, answer.1);
+    answer.0
 }
 
 // Takes a table off its place.
@@ -65,8 +65,8 @@ pub extern "C" fn lemondarts_take_off(bytes: &mut [u8], area: &mut [u8], place: 
     let next = taken.board;
     let reply = taken.answer;
     let answer = take_answer(reply);
-    write_board(bytes, next, answer.changes);
-    answer.number
+    write_board(bytes, next, answer.1);
+    answer.0
 }
 
 // Permits or denies an action. The area is only read.
@@ -81,6 +81,6 @@ pub extern "C" fn lemondarts_action(bytes: &mut [u8], area: &[u8], action: usize
     let next = acted.board;
     let reply = acted.answer;
     let answer = act_answer(reply);
-    write_board(bytes, next, answer.changes);
-    answer.number
+    write_board(bytes, next, answer.1);
+    answer.0
 }

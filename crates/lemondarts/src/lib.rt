@@ -9,8 +9,5 @@ pub use calls::lemondarts_new_board;
 pub use calls::lemondarts_put_on;
 pub use calls::lemondarts_take_off;
 
-// An answer's number, and whether the answer changes the board.
-pub struct Answer {
-    pub number: u32,
-    pub changes: bool,
-}
+// An answer: its number, and whether it changes the board.
+pub struct Answer(pub u32, pub bool);

@@ -37,113 +37,50 @@ pub fn load_number(answer: Loaded) -> u32
 }
 
 pub fn made_answer(answer: Made) -> Answer
-    ensures { λ r. ⌜ AnswerIs (madeReply answer) (r .number) (r .changes) ⌝ }
+    ensures { λ r. ⌜ AnswerIs (madeReply answer) (r .0) (r .1) ⌝ }
 {
     match answer {
-        Made::Board => Answer {
-            number: 0,
-            changes: true,
-        },
-        Made::ShortArea => Answer {
-            number: 14,
-            changes: false,
-        },
+        Made::Board => Answer(0, true),
+        Made::ShortArea => Answer(14, false),
     }
 }
 
 pub fn put_answer(answer: Put) -> Answer
-    ensures { λ r. ⌜ AnswerIs (putReply answer) (r .number) (r .changes) ⌝ }
+    ensures { λ r. ⌜ AnswerIs (putReply answer) (r .0) (r .1) ⌝ }
 {
     match answer {
-        Put::On => Answer {
-            number: 0,
-            changes: true,
-        },
-        Put::ShortArea => Answer {
-            number: 14,
-            changes: false,
-        },
-        Put::NoPlace => Answer {
-            number: 13,
-            changes: false,
-        },
-        Put::Impossible => Answer {
-            number: 25,
-            changes: false,
-        },
-        Put::Taken => Answer {
-            number: 22,
-            changes: false,
-        },
-        Put::Malformed => Answer {
-            number: 10,
-            changes: false,
-        },
-        Put::NotCanonical => Answer {
-            number: 11,
-            changes: false,
-        },
-        Put::OtherActions => Answer {
-            number: 23,
-            changes: false,
-        },
+        Put::On => Answer(0, true),
+        Put::ShortArea => Answer(14, false),
+        Put::NoPlace => Answer(13, false),
+        Put::Impossible => Answer(25, false),
+        Put::Taken => Answer(22, false),
+        Put::Malformed => Answer(10, false),
+        Put::NotCanonical => Answer(11, false),
+        Put::OtherActions => Answer(23, false),
     }
 }
 
 pub fn take_answer(answer: Take) -> Answer
-    ensures { λ r. ⌜ AnswerIs (takeReply answer) (r .number) (r .changes) ⌝ }
+    ensures { λ r. ⌜ AnswerIs (takeReply answer) (r .0) (r .1) ⌝ }
 {
     match answer {
-        Take::Off => Answer {
-            number: 0,
-            changes: true,
-        },
-        Take::ShortArea => Answer {
-            number: 14,
-            changes: false,
-        },
-        Take::NoPlace => Answer {
-            number: 13,
-            changes: false,
-        },
-        Take::Impossible => Answer {
-            number: 25,
-            changes: false,
-        },
-        Take::EmptyPlace => Answer {
-            number: 21,
-            changes: false,
-        },
+        Take::Off => Answer(0, true),
+        Take::ShortArea => Answer(14, false),
+        Take::NoPlace => Answer(13, false),
+        Take::Impossible => Answer(25, false),
+        Take::EmptyPlace => Answer(21, false),
     }
 }
 
 pub fn act_answer(answer: Act) -> Answer
-    ensures { λ r. ⌜ AnswerIs (actReply answer) (r .number) (r .changes) ⌝ }
+    ensures { λ r. ⌜ AnswerIs (actReply answer) (r .0) (r .1) ⌝ }
 {
     match answer {
-        Act::Permitted(fulfilled) => Answer {
-            number: pack(0, base::byte(fulfilled), 0, 0),
-            changes: true,
-        },
-        Act::Denied(place) => Answer {
-            number: pack(255, place, 0, 0),
-            changes: false,
-        },
-        Act::ShortArea => Answer {
-            number: 14,
-            changes: false,
-        },
-        Act::Impossible => Answer {
-            number: 25,
-            changes: false,
-        },
-        Act::EmptyBoard => Answer {
-            number: 24,
-            changes: false,
-        },
-        Act::NoAction => Answer {
-            number: 12,
-            changes: false,
-        },
+        Act::Permitted(fulfilled) => Answer(pack(0, base::byte(fulfilled), 0, 0), true),
+        Act::Denied(place) => Answer(pack(255, place, 0, 0), false),
+        Act::ShortArea => Answer(14, false),
+        Act::Impossible => Answer(25, false),
+        Act::EmptyBoard => Answer(24, false),
+        Act::NoAction => Answer(12, false),
     }
 }
