@@ -18,11 +18,13 @@ use Rattle.lemondarts.specs.Record.{recordOf}
 use Rattle.lemondarts.specs.Numbers.{pack, packedReply, packedAnswer, AnswerIs}
 use Rattle.lemondarts.specs.Exports.{ActsOn, Returns, called}
 
--- the number of an accepted table
-pub table-number : (l : Loaded) (m : Mode) (type actions rows n : ℕ) → l ≡ Table m actions rows → type ≡ modeNumber m → n ≡ pack 0 type actions rows
+-- the number of a table, by its type
+pub typed-number : (m : Mode) (type actions rows n : ℕ) → type ≡ modeNumber m → n ≡ pack 0 type actions rows → n ≡ pack 0 (modeNumber m) actions rows
+typed-number m type actions rows n t h = h ∙ ap (λ (k : ℕ). pack 0 k actions rows) t
+
+pub loaded-number : (l : Loaded) (m : Mode) (actions rows n : ℕ) → l ≡ Table m actions rows → n ≡ pack 0 (modeNumber m) actions rows
     → n ≡ packedAnswer (answerOf l)
-table-number l m type actions rows n e t h =
-    h ∙ ap (λ (k : ℕ). pack 0 k actions rows) t ∙ ap (λ (x : Loaded). packedAnswer (answerOf x)) (sym e)
+loaded-number l m actions rows n e h = h ∙ ap (λ (x : Loaded). packedAnswer (answerOf x)) (sym e)
 
 -- the answers to an action that carry a value
 pub permitted-number : (a : Act) (fulfilled value n : ℕ) → a ≡ Permitted fulfilled → value ≡ fulfilled → n ≡ pack 0 value 0 0 → AnswerIs (actReply a) n true

@@ -7,16 +7,26 @@ use board::Take;
 use table::Loaded;
 use trace::Mode;
 ghost use mathlib.Core.Path.{_≡_};
-ghost use Rattle.table.specs.Answer.{answerOf};
+ghost use Rattle.table.specs.Answer.{answerOf, modeNumber};
 ghost use Rattle.board.specs.Replies.{madeReply, putReply, takeReply, actReply};
 ghost use Rattle.lemondarts.specs.Numbers.{pack as packed, packedAnswer, AnswerIs};
 
 // Four bytes in one number, lowest first.
-fn pack(number: usize, value: usize, actions: usize, rows: usize) -> u32
+pub fn pack(number: usize, value: usize, actions: usize, rows: usize) -> u32
     ensures { λ r. ⌜ r ≡ packed number value actions rows ⌝ }
 {
     let low = (number % 256) as u32 + 256 * ((value % 256) as u32);
     low + 65536 * ((actions % 256) as u32) + 16777216 * ((rows % 256) as u32)
+}
+
+// A table's type, actions and rows.
+pub fn table_number(mode: Mode, actions: usize, rows: usize) -> u32
+    ensures { λ r. ⌜ r ≡ packed 0 (modeNumber mode) actions rows ⌝ }
+{
+    match mode {
+        Mode::Enforced => pack(0, 1, actions, rows),
+        Mode::Watched => pack(0, 2, actions, rows),
+    }
 }
 
 pub fn load_number(answer: Loaded) -> u32
@@ -27,10 +37,7 @@ pub fn load_number(answer: Loaded) -> u32
             mode,
             actions,
             rows,
-        } => match mode {
-            Mode::Enforced => pack(0, 1, actions, rows),
-            Mode::Watched => pack(0, 2, actions, rows),
-        },
+        } => table_number(mode, actions, rows),
         Loaded::Malformed => 10,
         Loaded::NotCanonical => 11,
     }
