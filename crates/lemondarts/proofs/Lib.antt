@@ -4,3 +4,4 @@ pub mod ReadBack
 pub mod Kept
 pub mod Answers
 pub mod Sessions
+pub mod CompileNumbers

@@ -2,3 +2,4 @@ pub mod Record
 pub mod Numbers
 pub mod Exports
 pub mod Session
+pub mod Compiling

@@ -1,5 +1,6 @@
 // The public calls for C: numbers and byte slices only, a board as 16 bytes, an answer as one number. include/lemondarts.h declares them.
 mod calls;
+mod compiling;
 mod encoding;
 mod numbers;
 
@@ -8,6 +9,7 @@ pub use calls::lemondarts_load;
 pub use calls::lemondarts_new_board;
 pub use calls::lemondarts_put_on;
 pub use calls::lemondarts_take_off;
+pub use compiling::lemondarts_compile;
 
 // An answer: its number, and whether it changes the board.
 pub struct Answer(pub u32, pub bool);
