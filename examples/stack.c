@@ -1,0 +1,84 @@
+/* Measures the stack that each call takes: runs it on a painted stack, and counts the bytes that it changed.
+ *
+ * From the top of the repository, after `rt staticlib lemondarts`:
+ *
+ *     gcc -std=c11 -O2 -Wall -Wextra -Iinclude -o stack examples/stack.c target/staticlib/liblemondarts.a && ./stack
+ *
+ * The numbers in include/lemondarts.h are what it printed, rounded up. They change with the compiler's version.
+ */
+#define _XOPEN_SOURCE 700
+#include <stdio.h>
+#include <string.h>
+#include <ucontext.h>
+
+#include "lemondarts.h"
+
+enum { STACK = 1 << 18, PAINT = 0xA5 };
+
+static _Alignas(16) uint8_t stack[STACK];
+static ucontext_t back, there;
+
+static uint8_t record[LEMONDARTS_RECORD];
+static uint8_t area[LEMONDARTS_AREA];
+static uint8_t out[LEMONDARTS_TABLE];
+static uint8_t work[LEMONDARTS_WORK];
+static uint64_t values[LEMONDARTS_VALUES];
+static uint8_t table[LEMONDARTS_TABLE];
+static uint32_t answer;
+
+/* Always (After+ (Eventually Now p0) (Before+ (Eventually Now p1) (Always Holds not p0))), over four actions. */
+static const uint8_t sheet[78] = {
+    4, 0, 12, 0, 10, 0, 18, 0, 78, 0, 1, 0, 2, 0, 4, 0, 8, 0,
+    3, 0, 0, 0, 0, 10, 0, 0, 0, 0, 16, 0, 1, 0, 0, 3, 1, 0, 0, 0, 10, 0, 3, 0, 0, 16, 0, 4, 0, 0,
+    4, 0, 0, 0, 0, 11, 0, 6, 0, 0, 17, 0, 7, 0, 0, 19, 0, 5, 8, 0, 21, 0, 2, 9, 0, 17, 0, 10, 0, 0,
+};
+
+static void nothing(void) {}
+static void load(void) { answer = lemondarts_load(table, sizeof table); }
+static void compile(void) { answer = lemondarts_compile(sheet, sizeof sheet, out, sizeof out, work, sizeof work, values, LEMONDARTS_VALUES); }
+static void new_board(void) { answer = lemondarts_new_board(record, sizeof record, area, sizeof area); }
+static void put_on(void) { answer = lemondarts_put_on(record, sizeof record, area, sizeof area, 0, table, sizeof table); }
+static void action(void) { answer = lemondarts_action(record, sizeof record, area, sizeof area, 0); }
+static void take_off(void) { answer = lemondarts_take_off(record, sizeof record, area, sizeof area, 0); }
+
+static size_t used(void (*call)(void)) {
+    size_t untouched = 0;
+    memset(stack, PAINT, sizeof stack);
+    getcontext(&there);
+    there.uc_stack.ss_sp = stack;
+    there.uc_stack.ss_size = sizeof stack;
+    there.uc_link = &back;
+    makecontext(&there, call, 0);
+    swapcontext(&back, &there);
+    while (untouched < sizeof stack && stack[untouched] == PAINT) {
+        untouched++;
+    }
+    return sizeof stack - untouched;
+}
+
+static void show(const char *name, void (*call)(void), size_t bare) {
+    size_t bytes = used(call);
+    printf("%-10s %6u bytes, answer %u\n", name, (unsigned)(bytes - bare), LEMONDARTS_NUMBER(answer));
+}
+
+/* The largest table: 64 rows of 16 actions, a chain in which the last row trips. */
+static void make_table(void) {
+    static const uint8_t header[8] = { 2, 0, 16, 0, 64, 0, 8, 0 };
+    unsigned k;
+    memcpy(table, header, sizeof header);
+    for (k = 0; k < 1024; k++) {
+        table[8 + k] = (uint8_t)(k / 16 < 63 ? k / 16 + 1 : 255);
+    }
+}
+
+int main(void) {
+    size_t bare = used(nothing);
+    make_table();
+    show("load", load, bare);
+    show("compile", compile, bare);
+    show("new_board", new_board, bare);
+    show("put_on", put_on, bare);
+    show("action", action, bare);
+    show("take_off", take_off, bare);
+    return 0;
+}
