@@ -5,3 +5,4 @@ pub mod Kept
 pub mod Answers
 pub mod Sessions
 pub mod CompileNumbers
+pub mod Spots

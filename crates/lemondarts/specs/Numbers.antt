@@ -6,7 +6,7 @@ use Prim.Native.Nat.{ℕ, _+_, _*_, _%_}
 use Rattle.table.specs.Answer.{Answer, accepted, refused}
 use Rattle.board.specs.Calls.{Reply, done, permitted, denied, input, state}
 
--- Four bytes. What the calls answer is below 256 in each (proofs/Answers.antt), so nothing is lost.
+-- Four bytes. What the calls answer is below 256 in each (proofs/Answers.antt, Spots.antt), so nothing is lost.
 abbrev pub pack : (number value actions rows : ℕ) → ℕ
 pack number value actions rows = number % 256 + 256 * (value % 256) + 65536 * (actions % 256) + 16777216 * (rows % 256)
 
