@@ -4,7 +4,7 @@
  *
  *     gcc -std=c11 -O2 -Wall -Wextra -Iinclude -o stack examples/stack.c target/staticlib/liblemondarts.a && ./stack
  *
- * The numbers in include/lemondarts.h are what it printed, rounded up. They change with the compiler's version.
+ * The numbers change with the version of the toolchain; include/lemondarts.h has them rounded up.
  */
 #define _XOPEN_SOURCE 700
 #include <stdio.h>

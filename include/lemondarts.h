@@ -7,9 +7,9 @@
  * - It answers every input. A call that is refused or denied leaves the board and the output bytes as they were.
  * - A pointer comes with its length in elements. The pointer must not be null, even where the length is 0, and that many elements must be
  *   readable, and writable where the parameter is not const.
- * - The areas lent to one call must not overlap, save that two that are both const may. No call keeps a pointer.
+ * - The areas lent to one call must not overlap. No call keeps a pointer.
  * - Bytes need no alignment; `values` is aligned as a uint64_t, to 8 bytes.
- * - Stack, measured by examples/stack.c: compiling some 45 KiB, loading and putting on some 3.5 KiB, the others under 1 KiB.
+ * - Stack: compiling takes some 45 KiB, loading and putting on some 3.5 KiB, the others under 1 KiB. examples/stack.c measures it.
  * - Nothing else is asked of the caller: the contracts of the calls have no precondition.
  */
 #ifndef LEMONDARTS_H
