@@ -4,7 +4,7 @@ use mathlib.Core.Path.{_≡_, sym, _∙_, ap}
 use Prim.Native.Nat.{ℕ}
 use Rattle.sheet.specs.Judge.{numberOf, spotOf}
 use Rattle.sheet.specs.declared.Fault.{Fault}
-use Rattle.compiler.specs.Compiles.{answerOf}
+use Rattle.compiler.specs.Calling.{answerOf}
 use Rattle.compiler.specs.declared.Compiled.{Compiled}
 use Rattle.lemondarts.specs.Numbers.{pack}
 use Rattle.lemondarts.specs.Compiling.{packedCompiled}

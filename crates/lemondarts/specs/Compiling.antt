@@ -3,7 +3,8 @@
 use mathlib.Core.Path.{_≡_}
 use mathlib.Core.List.{List}
 use Prim.Native.Nat.{ℕ}
-use Rattle.compiler.specs.Compiles.{Answer, table, refused, CompilesInto}
+use Rattle.nodes.specs.Compiles.{Answer, table, refused}
+use Rattle.compiler.specs.Calling.{CompilesInto}
 use Rattle.lemondarts.specs.Numbers.{pack}
 
 -- The compiler's answer: for a table its type, actions and rows; for a refusal its number and spot.

@@ -5,7 +5,7 @@ use compiler::Compiled;
 use sheet::Fault;
 ghost use mathlib.Core.Path.{_≡_};
 ghost use Rattle.sheet.specs.Judge.{numberOf, spotOf};
-ghost use Rattle.compiler.specs.Compiles.{answerOf};
+ghost use Rattle.compiler.specs.Calling.{answerOf};
 ghost use Rattle.lemondarts.specs.Numbers.{pack as packed};
 ghost use Rattle.lemondarts.specs.Compiling.{packedCompiled, CompileReturns};
 
