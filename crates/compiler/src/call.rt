@@ -83,7 +83,7 @@ fn compile_in(sheet: &[u8], out: &mut [u8], work: &mut [u8], values: &mut [u64])
 {
     base::fill(work, 255);
     let compiled = compile_with(sheet, out, work, values, 1024, 64);
-    base::clear(work);
+    base::fill(work, 0);
     base::clear_numbers(values);
     compiled
 }

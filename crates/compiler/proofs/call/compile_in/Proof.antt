@@ -17,8 +17,8 @@ compile-with-requires c κs =
       (z .pre .0, (of-length 65536 255 (z .args .work .now) _ (z .pre .1 .0) (c .before .before .before .before .before .fill .ensures), (let e = z .pre .1 .1 in omega arith))),
     )
 
-clear-requires : tie.Need-clear-requires
-clear-requires c κs = search needs
+fill-requires-2 : tie.Need-fill-requires-2
+fill-requires-2 c κs = search needs
 
 clear-numbers-requires : tie.Need-clear-numbers-requires
 clear-numbers-requires c κs = search needs
@@ -40,7 +40,7 @@ returns c =
     let q = k .before .before .before .before .before .before .fill .kept in (
       k .compile-with .ensures,
       (
-        of-length (length (z .args .work .now)) 0 (k .compile-with .last .1 .1 .0) _ (omega arith) (c .before .before .before .before .before .before .clear .ensures),
+        of-length (length (z .args .work .now)) 0 (k .compile-with .last .1 .1 .0) _ (omega arith) (c .before .before .before .before .before .before .fill2 .ensures),
         of-length (length (z .args .values .now)) 0 (k .compile-with .last .1 .1 .1 .0) _ (omega arith) (c .before .before .clear-numbers .ensures),
       ),
     )
@@ -51,7 +51,7 @@ compile-in-spec =
     (tie.spec
     fill-requires
     compile-with-requires
-    clear-requires
+    fill-requires-2
     clear-numbers-requires
     same-length
     same-length-2
