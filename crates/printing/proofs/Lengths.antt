@@ -1,0 +1,53 @@
+-- How long the pieces of a text can be.
+-- Assumes nothing.
+use mathlib.Core.Path.{_≡_, refl}
+use mathlib.Core.Bool.{Bool, true, false, cond}
+use mathlib.Core.List.{List, _++_}
+use Prim.Native.Nat.{ℕ, zero, suc, _+_, _*_, _≤_, _<_}
+use native.Mathlib.Nat.{le-refl}
+use native.Mathlib.Omega.{arith}
+use lib.Dec.{eqb, ltb}
+use lib.ListN.{length, getD, take, drop, length-append, length-take}
+use Rattle.trace.specs.declared.Mode.{Mode}
+use Rattle.trace.specs.declared.Mode.the-variants.{Enforced, Watched}
+use Rattle.printing.specs.Text.{digit, dash, newline, blank, decimal, modeWord, spaced, counts, entryText, nextText, entriesText, rowLine, rowLines}
+
+-- a choice of two
+either : (b : Bool) (x y : List ℕ) (n : ℕ) → length x ≤ n → length y ≤ n → length (cond b x y) ≤ n
+either true x y n h g = h
+either false x y n h g = g
+
+pub length-decimal : (n : ℕ) → length (decimal n) ≤ 3
+length-decimal n = either (ltb n 10) _ _ 3 (omega arith) (either (ltb n 100) _ _ 3 (omega arith) (omega arith))
+
+pub length-mode : (mode : Mode) → length (modeWord mode) ≡ 3
+length-mode Enforced = refl
+length-mode Watched = refl
+
+pub length-spaced : (n : ℕ) → length (spaced n) ≤ 4
+length-spaced n = omega (arith, length-decimal n)
+
+pub length-counts : (first second : ℕ) → length (counts first second) ≤ 9
+length-counts first second =
+    omega (arith, length-append (spaced first) (spaced second ++ newline), length-append (spaced second) newline, length-spaced first, length-spaced second)
+
+pub length-entry : (e : ℕ) → length (entryText e) ≤ 3
+length-entry e = either (eqb e 255) dash (decimal e) 3 (omega arith) (length-decimal e)
+
+pub length-next : (k e : ℕ) → length (nextText k e) ≤ 4
+length-next zero e = omega (arith, length-entry e)
+length-next (suc k) e = omega (arith, length-entry e)
+
+pub length-entries : (row : List ℕ) (n : ℕ) → length (entriesText row n) ≤ 4 * n
+length-entries row zero = omega arith
+length-entries row (suc n) =
+    omega (arith, length-append (entriesText row n) (nextText n (getD row n 0)), length-entries row n, length-next n (getD row n 0))
+
+pub length-row : (row : List ℕ) → length (rowLine row) ≤ 4 * length row + 1
+length-row row = omega (arith, length-append (entriesText row (length row)) newline, length-entries row (length row))
+
+pub length-rows : (actions n : ℕ) (entries : List ℕ) → actions ≤ 16 → length (rowLines actions n entries) ≤ 65 * n
+length-rows actions zero entries h = omega arith
+length-rows actions (suc n) entries h =
+    let row : List ℕ = take actions (drop (n * actions) entries) in
+    omega (arith, length-append (rowLines actions n entries) (rowLine row), length-rows actions n entries h, length-row row, length-take actions (drop (n * actions) entries))

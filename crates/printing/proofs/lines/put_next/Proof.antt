@@ -1,0 +1,27 @@
+-- `printing::lines::put_next` meets its contract.
+-- Assumes nothing.
+use Rattle.printing.proofs.Appending.{appends-then, appends-as}
+use Rattle.printing.proofs.Numerals.{first-next, later-next}
+use borrow.Author.Needs.{needs}
+use Rattle.printing.proofs.lines.put_next.Statement.{statement}
+use Rattle.printing.proofs.lines.put_next.Tie as tie
+
+returns : tie.Need-returns
+returns c = appends-as (first-next _ _ (c .before .before .before .before .before .if1 .taken)) (c .before .before .put-entry .ensures)
+
+returns-2 : tie.Need-returns-2
+returns-2 c = appends-as (later-next _ _ (c .before .before .before .before .before .before .before .before .before .if1 .left)) (appends-then (c .before .before .before .before .before .before .before .put .ensures) (c .before .before .put-entry2 .ensures))
+
+pub put-next-spec : {M : Type 1} → statement M
+put-next-spec =
+    tie.close
+    (tie.spec
+    (λ c. search needs)
+    (λ c κs. search needs)
+    (λ c. search needs)
+    returns
+    (λ c κs. search needs)
+    (λ c. search needs)
+    (λ c κs. search needs)
+    (λ c. search needs)
+    returns-2)

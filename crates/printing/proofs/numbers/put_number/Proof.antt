@@ -1,0 +1,35 @@
+-- `printing::numbers::put_number` meets its contract: one, two or three digits, one behind the other.
+-- Assumes nothing.
+use Rattle.printing.proofs.Appending.{appends-then, appends-as}
+use Rattle.printing.proofs.Numerals.{one-digit, two-digits, three-digits}
+use borrow.Author.Needs.{needs}
+use Rattle.printing.proofs.numbers.put_number.Statement.{statement}
+use Rattle.printing.proofs.numbers.put_number.Tie as tie
+
+returns : tie.Need-returns
+returns c = appends-as (one-digit _ (c .before .before .before .before .if1 .taken)) (c .before .before .put-digit .ensures)
+
+returns-2 : tie.Need-returns-2
+returns-2 c = appends-as (two-digits _ (c .before .before .before .before .before .before .before .before .before .if1 .left) (c .before .before .before .before .before .before .before .before .if2 .taken)) (appends-then (c .before .before .before .before .before .before .put-digit2 .ensures) (c .before .before .put-digit3 .ensures))
+
+returns-3 : tie.Need-returns-3
+returns-3 c =
+    appends-as (three-digits _ (c .before .before .before .before .before .before .before .before .before .before .before .before .if2 .left))
+    (appends-then (c .before .before .before .before .before .before .before .before .before .before .put-digit4 .ensures) (appends-then (c .before .before .before .before .before .before .put-digit5 .ensures) (c .before .before .put-digit6 .ensures)))
+
+pub put-number-spec : {M : Type 1} → statement M
+put-number-spec =
+    tie.close
+    (tie.spec
+    (λ c κs. search needs)
+    (λ c. search needs)
+    returns
+    (λ c κs. search needs)
+    (λ c κs. search needs)
+    (λ c. search needs)
+    returns-2
+    (λ c κs. search needs)
+    (λ c κs. search needs)
+    (λ c κs. search needs)
+    (λ c. search needs)
+    returns-3)

@@ -1,0 +1,25 @@
+-- `printing::texts::give` meets its contract.
+-- Assumes nothing.
+use mathlib.Core.Path.{sym, subst}
+use mathlib.Core.List.{List}
+use Prim.Native.Nat.{ℕ}
+use Rattle.printing.specs.Printing.{Gives, fits, short}
+use Rattle.printing.specs.declared.Printed.the-variants.{Written}
+use borrow.Author.Needs.{needs}
+use Rattle.printing.proofs.texts.give.Statement.{statement}
+use Rattle.printing.proofs.texts.give.Tie as tie
+
+returns : tie.Need-returns
+returns c = short (c .if1 .taken)
+
+returns-2 : tie.Need-returns-2
+returns-2 c = subst (λ (l : List ℕ). Gives (c .before .before .before .before .before .before .before .args .written .now) (c .before .before .before .before .before .before .before .args .text .now) (Written _) l) (sym (c .before .before .copy .ensures)) (fits (c .before .before .before .before .if1 .left))
+
+pub give-spec : {M : Type 1} → statement M
+give-spec =
+    tie.close
+    (tie.spec
+    returns
+    (λ c κs. search needs)
+    (λ c. search needs)
+    returns-2)

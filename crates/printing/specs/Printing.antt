@@ -1,0 +1,36 @@
+-- What the printing calls answer, and every byte of the text area.
+-- Assumes nothing.
+use mathlib.Core.List.{List, _++_}
+use Prim.Native.Nat.{ℕ, _*_, _≤_, _<_}
+use lib.ListN.{length, drop}
+use Rattle.trace.specs.declared.Mode.{Mode}
+use Rattle.printing.specs.Text.{tableText, refusalText}
+use Rattle.printing.specs.declared.Printed.{Printed}
+use Rattle.printing.specs.declared.Printed.the-variants.{Written, OutOfRange, ShortText}
+
+-- The counts of a table, and enough entries for them.
+pub record TableInRange (actions rows : ℕ) (entries : List ℕ) : Type 0 where
+  pub actions-low : 1 ≤ actions
+  pub actions-high : actions ≤ 16
+  pub rows-low : 1 ≤ rows
+  pub rows-high : rows ≤ 64
+  pub enough : rows * actions ≤ length entries
+
+pub record RefusalInRange (number spot : ℕ) : Type 0 where
+  pub number-high : number < 1000
+  pub spot-high : spot < 1000
+
+-- A text is given to an area: at its front with the rest unchanged where it fits, else not at all.
+pub data Gives (text old : List ℕ) : Printed → List ℕ → Type 0 where
+  fits : length text ≤ length old → Gives text old (Written (length text)) (text ++ drop (length text) old)
+  short : length old < length text → Gives text old ShortText old
+
+pub data PrintsTable (mode : Mode) (actions rows : ℕ) (entries old : List ℕ) : Printed → List ℕ → Type 0 where
+  out-of-range : (TableInRange actions rows entries → ⊥) → PrintsTable mode actions rows entries old OutOfRange old
+  in-range : (answer : Printed) (new : List ℕ) → TableInRange actions rows entries → Gives (tableText mode actions rows entries) old answer new
+      → PrintsTable mode actions rows entries old answer new
+
+pub data PrintsRefusal (number spot : ℕ) (old : List ℕ) : Printed → List ℕ → Type 0 where
+  out-of-range : (RefusalInRange number spot → ⊥) → PrintsRefusal number spot old OutOfRange old
+  in-range : (answer : Printed) (new : List ℕ) → RefusalInRange number spot → Gives (refusalText number spot) old answer new
+      → PrintsRefusal number spot old answer new

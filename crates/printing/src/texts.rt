@@ -1,0 +1,81 @@
+// The public calls. A text is made in a scratch array, and given where it fits.
+use crate::Printed;
+use crate::lines::put_counts;
+use crate::lines::put_mode;
+use crate::lines::put_rows;
+use crate::writer::put_word;
+use trace::Mode;
+ghost use mathlib.Core.Path.{_≡_};
+ghost use Prim.Native.Nat.{_*_, _≤_, _<_};
+ghost use lib.ListN.{length};
+ghost use Rattle.printing.specs.Text.{tableText, refusalText};
+ghost use Rattle.printing.specs.Writing.{Appends};
+ghost use Rattle.printing.specs.Printing.{TableInRange, Gives, PrintsTable, PrintsRefusal};
+
+// Room for the largest text: 64 rows of 16 entries, and the first line.
+fn room() -> [u8; 4352]
+    ensures { λ r. ⌜ length r ≡ 4352 ⌝ }
+{
+    [0u8; 4352]
+}
+
+// Copies a text to the front of the area where it fits.
+fn give(written: &[u8], text: &mut [u8]) -> Printed
+    ensures { λ r. ⌜ Gives (now (written .entry)) (now (text .entry)) r (now (text .exit)) ⌝ }
+{
+    if text.len() < written.len() {
+        return Printed::ShortText;
+    }
+    base::copy(written, text);
+    Printed::Written(written.len())
+}
+
+fn put_table(mode: Mode, actions: usize, rows: usize, entries: &[u8], text: &mut [u8]) -> usize
+    requires { ⌜ TableInRange actions rows (now entries) ⌝ }
+    requires { ⌜ length (now text) ≡ 4352 ⌝ }
+    ensures { λ r. ⌜ Appends (now (text .entry)) 0 (tableText mode actions rows (now (entries .entry))) (now (text .exit)) r ⌝ }
+{
+    let word = put_mode(mode, text, 0);
+    let line = put_counts(actions, rows, text, word);
+    put_rows(actions, rows, entries, text, line)
+}
+
+fn put_refusal(number: usize, spot: usize, text: &mut [u8]) -> usize
+    requires { ⌜ number < 1000 ⌝ }
+    requires { ⌜ spot < 1000 ⌝ }
+    requires { ⌜ length (now text) ≡ 4352 ⌝ }
+    ensures { λ r. ⌜ Appends (now (text .entry)) 0 (refusalText number spot) (now (text .exit)) r ⌝ }
+{
+    let word = put_word(b"refused", text, 0);
+    put_counts(number, spot, text, word)
+}
+
+// Writes the text of a table to the front of `text`: 1 to 16 actions, 1 to 64 rows, and the rows' entries one behind the other.
+pub fn print_table(mode: Mode, actions: usize, rows: usize, entries: &[u8], text: &mut [u8]) -> Printed
+    ensures { λ r. ⌜ PrintsTable mode actions rows (now (entries .entry)) (now (text .entry)) r (now (text .exit)) ⌝ }
+{
+    if actions < 1 || 16 < actions || rows < 1 || 64 < rows {
+        return Printed::OutOfRange;
+    }
+    if entries.len() < rows * actions {
+        return Printed::OutOfRange;
+    }
+    let mut made = room();
+    let end = put_table(mode, actions, rows, entries, &mut made);
+    give(&made[..end], text)
+}
+
+// Writes the text of a refusal to the front of `text`. Both numbers are below 1,000.
+pub fn print_refusal(number: usize, spot: usize, text: &mut [u8]) -> Printed
+    ensures { λ r. ⌜ PrintsRefusal number spot (now (text .entry)) r (now (text .exit)) ⌝ }
+{
+    if 999 < number {
+        return Printed::OutOfRange;
+    }
+    if 999 < spot {
+        return Printed::OutOfRange;
+    }
+    let mut made = room();
+    let end = put_refusal(number, spot, &mut made);
+    give(&made[..end], text)
+}
