@@ -52,3 +52,10 @@ module _ (old word x : List ℕ) (at end : ℕ) (size : at + length word ≡ end
 -- what is written from the front on is the piece
 pub front : {old piece new : List ℕ} {end : ℕ} → Appends old 0 piece new end → take end new ≡ piece
 front a = a .so-far
+
+-- and lies inside the area that had room for it
+pub within : {old piece new : List ℕ} {end : ℕ} → Appends old 0 piece new end → length piece ≤ length old → end ≤ length new
+within a h = omega (arith, a .ends, a .sized)
+
+pub counted : {old piece new : List ℕ} {end : ℕ} → Appends old 0 piece new end → end ≡ length (take end new)
+counted a = omega (arith, a .ends, ap length (a .so-far))

@@ -10,7 +10,7 @@ use lib.Dec.{eqb, ltb}
 use lib.ListN.{length, getD, take, drop, length-append, length-take}
 use Rattle.trace.specs.declared.Mode.{Mode}
 use Rattle.trace.specs.declared.Mode.the-variants.{Enforced, Watched}
-use Rattle.printing.specs.Text.{digit, dash, newline, blank, decimal, modeWord, spaced, counts, entryText, nextText, entriesText, rowLine, rowLines}
+use Rattle.printing.specs.Text.{digit, dash, newline, blank, decimal, modeWord, spaced, counts, entryText, nextText, entriesText, rowLine, rowLines, refused, tableText, refusalText}
 
 -- a choice of two
 either : (b : Bool) (x y : List ℕ) (n : ℕ) → length x ≤ n → length y ≤ n → length (cond b x y) ≤ n
@@ -51,3 +51,17 @@ length-rows actions zero entries h = omega arith
 length-rows actions (suc n) entries h =
     let row : List ℕ = take actions (drop (n * actions) entries) in
     omega (arith, length-append (rowLines actions n entries) (rowLine row), length-rows actions n entries h, length-row row, length-take actions (drop (n * actions) entries))
+
+pub length-refusal : (number spot : ℕ) → length (refusalText number spot) ≤ 16
+length-refusal number spot = omega (arith, length-append refused (counts number spot), length-counts number spot)
+
+pub length-table : (mode : Mode) (actions rows : ℕ) (entries : List ℕ) → actions ≤ 16 → rows ≤ 64 → length (tableText mode actions rows entries) ≤ 4172
+length-table mode actions rows entries h g =
+    omega (
+      arith,
+      length-append (modeWord mode) (counts actions rows ++ rowLines actions rows entries),
+      length-append (counts actions rows) (rowLines actions rows entries),
+      length-mode mode,
+      length-counts actions rows,
+      length-rows actions rows entries h,
+    )

@@ -51,10 +51,25 @@ fn put_refusal(number: usize, spot: usize, text: &mut [u8]) -> usize
 }
 
 // Writes the text of a table to the front of `text`: 1 to 16 actions, 1 to 64 rows, and the rows' entries one behind the other.
-pub fn print_table(mode: Mode, actions: usize, rows: usize, entries: &[u8], text: &mut [u8]) -> Printed
+pub fn print_table(
+    mode: Mode,
+    actions: usize,
+    rows: usize,
+    entries: &[u8],
+    text: &mut [u8],
+) -> Printed
     ensures { λ r. ⌜ PrintsTable mode actions rows (now (entries .entry)) (now (text .entry)) r (now (text .exit)) ⌝ }
 {
-    if actions < 1 || 16 < actions || rows < 1 || 64 < rows {
+    if actions < 1 {
+        return Printed::OutOfRange;
+    }
+    if 16 < actions {
+        return Printed::OutOfRange;
+    }
+    if rows < 1 {
+        return Printed::OutOfRange;
+    }
+    if 64 < rows {
         return Printed::OutOfRange;
     }
     if entries.len() < rows * actions {

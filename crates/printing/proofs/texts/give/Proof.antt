@@ -3,6 +3,7 @@
 use mathlib.Core.Path.{sym, subst}
 use mathlib.Core.List.{List}
 use Prim.Native.Nat.{ℕ}
+use lib.ListN.{length}
 use Rattle.printing.specs.Printing.{Gives, fits, short}
 use Rattle.printing.specs.declared.Printed.the-variants.{Written}
 use borrow.Author.Needs.{needs}
@@ -13,7 +14,10 @@ returns : tie.Need-returns
 returns c = short (c .if1 .taken)
 
 returns-2 : tie.Need-returns-2
-returns-2 c = subst (λ (l : List ℕ). Gives (c .before .before .before .before .before .before .before .args .written .now) (c .before .before .before .before .before .before .before .args .text .now) (Written _) l) (sym (c .before .before .copy .ensures)) (fits (c .before .before .before .before .if1 .left))
+returns-2 c =
+    let start = c .before .before .before .before .before .before .before in
+    let written : List ℕ = start .args .written .now in
+    subst (λ (l : List ℕ). Gives written (start .args .text .now) (Written (length written)) l) (sym (c .before .before .copy .ensures)) (fits (c .before .before .before .before .if1 .left))
 
 pub give-spec : {M : Type 1} → statement M
 give-spec =
