@@ -1,0 +1,11 @@
+// Compiles every case of document 01's "A small roastery", and writes for each its name and what the printing program prints.
+mod areas;
+mod cases;
+mod show;
+
+fn main() {
+    cases::starred();
+    cases::others();
+    cases::limits();
+    areas::too_short();
+}

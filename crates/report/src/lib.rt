@@ -1,0 +1,53 @@
+// What compiling answers, as text.
+use compiler::Compiled;
+use printing::Printed;
+use sheet::Fault;
+ghost use mathlib.Core.Path.{_≡_};
+ghost use Rattle.sheet.specs.Judge.{numberOf, spotOf};
+ghost use Rattle.compiler.specs.Compiles.{answerOf};
+ghost use Rattle.report.specs.Report.{PrintsAnswer};
+
+fn fault_number(fault: Fault) -> usize
+    ensures { λ r. ⌜ r ≡ numberOf fault ⌝ }
+{
+    match fault {
+        Fault::Length => 1,
+        Fault::Counts => 2,
+        Fault::Areas => 3,
+        Fault::UnknownKindAt(_) => 4,
+        Fault::WrongFieldAt(_) => 5,
+        Fault::WrongTypeAt(_) => 6,
+        Fault::BoundAt(_) => 7,
+    }
+}
+
+fn fault_spot(fault: Fault) -> usize
+    ensures { λ r. ⌜ r ≡ spotOf fault ⌝ }
+{
+    match fault {
+        Fault::Length => 0,
+        Fault::Counts => 0,
+        Fault::Areas => 0,
+        Fault::UnknownKindAt(node) => node,
+        Fault::WrongFieldAt(node) => node,
+        Fault::WrongTypeAt(node) => node,
+        Fault::BoundAt(node) => node,
+    }
+}
+
+// Prints an answer: the text of the table whose rows are `entries`, or of the refusal.
+pub fn print_answer(compiled: Compiled, entries: &[u8], text: &mut [u8]) -> Printed
+    ensures { λ r. ⌜ PrintsAnswer (answerOf compiled) (now (entries .entry)) (now (text .entry)) r (now (text .exit)) ⌝ }
+{
+    match compiled {
+        Compiled::Table {
+            mode,
+            actions,
+            rows,
+        } => printing::print_table(mode, actions, rows, entries, text),
+        Compiled::ShortArea => printing::print_refusal(14, 0, text),
+        Compiled::Faulty(fault) => printing::print_refusal(fault_number(fault), fault_spot(fault), text),
+        Compiled::TooManyValues(node) => printing::print_refusal(8, node, text),
+        Compiled::TooManyRows(node) => printing::print_refusal(9, node, text),
+    }
+}
