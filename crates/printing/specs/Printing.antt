@@ -34,3 +34,9 @@ pub data PrintsRefusal (number spot : ℕ) (old : List ℕ) : Printed → List �
   out-of-range : (RefusalInRange number spot → ⊥) → PrintsRefusal number spot old OutOfRange old
   in-range : (answer : Printed) (new : List ℕ) → RefusalInRange number spot → Gives (refusalText number spot) old answer new
       → PrintsRefusal number spot old answer new
+
+-- how many bytes an answer says were written
+abbrev pub countOf : Printed → ℕ
+countOf (Written count) = count
+countOf OutOfRange = 0
+countOf ShortText = 0

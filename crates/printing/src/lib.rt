@@ -6,6 +6,7 @@ mod writer;
 
 pub use texts::print_refusal;
 pub use texts::print_table;
+pub use texts::written;
 
 // What printing answers: how many bytes were written; or, with nothing written, that a value is out of its range, or that the text area is too
 // short.

@@ -7,10 +7,10 @@ use crate::writer::put_word;
 use trace::Mode;
 ghost use mathlib.Core.Path.{_≡_};
 ghost use Prim.Native.Nat.{_*_, _≤_, _<_};
-ghost use lib.ListN.{length};
+ghost use lib.ListN.{length, take};
 ghost use Rattle.printing.specs.Text.{tableText, refusalText};
 ghost use Rattle.printing.specs.Writing.{Appends};
-ghost use Rattle.printing.specs.Printing.{TableInRange, Gives, PrintsTable, PrintsRefusal};
+ghost use Rattle.printing.specs.Printing.{TableInRange, Gives, PrintsTable, PrintsRefusal, countOf};
 
 // Room for the largest text: 64 rows of 16 entries, and the first line.
 fn room() -> [u8; 4352]
@@ -93,4 +93,26 @@ pub fn print_refusal(number: usize, spot: usize, text: &mut [u8]) -> Printed
     let mut made = room();
     let end = put_refusal(number, spot, &mut made);
     give(&made[..end], text)
+}
+
+// How many bytes were written.
+fn count_of(printed: Printed) -> usize
+    ensures { λ r. ⌜ r ≡ countOf printed ⌝ }
+{
+    match printed {
+        Printed::Written(count) => count,
+        Printed::OutOfRange => 0,
+        Printed::ShortText => 0,
+    }
+}
+
+// The text that was written, at the front of its area.
+pub fn written(printed: Printed, text: &[u8]) -> &[u8]
+    ensures { λ r. ⌜ now r ≡ take (countOf printed) (now (text .entry)) ⌝ }
+{
+    let count = count_of(printed);
+    if text.len() < count {
+        return text;
+    }
+    &text[..count]
 }

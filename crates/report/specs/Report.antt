@@ -1,20 +1,16 @@
 -- The text of what compiling answers.
 -- Assumes nothing.
-use mathlib.Core.Bool.{cond}
 use mathlib.Core.List.{List}
 use Prim.Native.Nat.{ℕ}
-use lib.Dec.{eqb}
 use Rattle.trace.specs.declared.Mode.{Mode}
-use Rattle.trace.specs.declared.Mode.the-variants.{Enforced, Watched}
+use Rattle.table.specs.Answer.{modeNumber}
 use Rattle.compiler.specs.Compiles.{Answer, table, refused}
 use Rattle.printing.specs.declared.Printed.{Printed}
 use Rattle.printing.specs.Printing.{PrintsTable, PrintsRefusal}
 
--- A type's number in a table's header: 1 enforced, 2 watched.
-abbrev pub modeOf : ℕ → Mode
-modeOf type = cond (eqb type 1) Enforced Watched
-
--- A table is printed with the rows' entries, a refusal with its number and spot.
-abbrev pub PrintsAnswer : Answer → (entries old : List ℕ) → Printed → List ℕ → Type 0
-PrintsAnswer (table type actions rows) entries old answer new = PrintsTable (modeOf type) actions rows entries old answer new
-PrintsAnswer (refused number spot) entries old answer new = PrintsRefusal number spot old answer new
+-- A table is printed with its rows' entries, a refusal with its number and spot.
+pub data PrintsAnswer (entries old : List ℕ) : Answer → Printed → List ℕ → Type 0 where
+  of-table : (mode : Mode) (actions rows : ℕ) (printed : Printed) (new : List ℕ) → PrintsTable mode actions rows entries old printed new
+      → PrintsAnswer entries old (table (modeNumber mode) actions rows) printed new
+  of-refusal : (number spot : ℕ) (printed : Printed) (new : List ℕ) → PrintsRefusal number spot old printed new
+      → PrintsAnswer entries old (refused number spot) printed new

@@ -37,7 +37,7 @@ fn fault_spot(fault: Fault) -> usize
 
 // Prints an answer: the text of the table whose rows are `entries`, or of the refusal.
 pub fn print_answer(compiled: Compiled, entries: &[u8], text: &mut [u8]) -> Printed
-    ensures { λ r. ⌜ PrintsAnswer (answerOf compiled) (now (entries .entry)) (now (text .entry)) r (now (text .exit)) ⌝ }
+    ensures { λ r. ⌜ PrintsAnswer (now (entries .entry)) (now (text .entry)) (answerOf compiled) r (now (text .exit)) ⌝ }
 {
     match compiled {
         Compiled::Table {
