@@ -33,19 +33,10 @@ fn print_sheet(sheet: &[u8], text: &mut [u8]) -> Printed {
     report::print_answer(compiled, &table[8..], text)
 }
 
-fn write(printed: Printed, text: &[u8]) {
-    let Printed::Written(length) = printed else {
-        return;
-    };
-    if length <= text.len() {
-        io::write_all(1, &text[..length]);
-    }
-}
-
 fn main() {
     let mut sheet = io::large_buffer();
     let mut text = room_for_text();
     let length = io::read_full(0, &mut sheet);
     let printed = print_sheet(&sheet[..length], &mut text);
-    write(printed, &text);
+    io::write_all(1, printing::written(printed, &text));
 }
