@@ -38,8 +38,8 @@ pub fn put_counts(first: usize, second: usize, text: &mut [u8], at: usize) -> us
     ensures { λ r. ⌜ Appends (now (text .entry)) at (counts first second) (now (text .exit)) r ⌝ }
 {
     let next = put_spaced(first, text, at);
-    let end = put_spaced(second, text, next);
-    put(b'\n', text, end)
+    let last = put_spaced(second, text, next);
+    put(b'\n', text, last)
 }
 
 // An entry.

@@ -1,18 +1,19 @@
 -- `printing::lines::put_entry` meets its contract.
 -- Assumes nothing.
-use mathlib.Core.Path.{ap, sym, subst, _∙_}
+use mathlib.Core.Path.{ap, _∙_}
 use Rattle.printing.proofs.Appending.{appends-as}
-use Rattle.printing.specs.Text.{decimal, entryText}
+use Rattle.printing.specs.Text.{entryText}
 use Rattle.printing.proofs.Numerals.{trip-entry, row-entry}
+use native.Mathlib.Omega.{arith}
 use borrow.Author.Needs.{needs}
 use Rattle.printing.proofs.lines.put_entry.Statement.{statement}
 use Rattle.printing.proofs.lines.put_entry.Tie as tie
 
 returns : tie.Need-returns
-returns c = appends-as (trip-entry _ (c .before .before .before .before .if1 .taken) ∙ ap entryText (c .before .before .before .before .before .byte .ensures .0)) (c .before .before .put .ensures)
+returns c = appends-as (trip-entry (c .before .before .before .before .before .byte .result) (omega arith) ∙ ap entryText (c .before .before .before .before .before .byte .ensures .0)) (c .before .before .put .ensures)
 
 returns-2 : tie.Need-returns-2
-returns-2 c = appends-as (row-entry _ (c .before .before .before .before .if1 .left) ∙ ap entryText (c .before .before .before .before .before .byte .ensures .0)) (c .before .before .put-number .ensures)
+returns-2 c = appends-as (row-entry (c .before .before .before .before .before .byte .result) (λ e. omega (arith, c .before .before .before .before .if1 .left)) ∙ ap entryText (c .before .before .before .before .before .byte .ensures .0)) (c .before .before .put-number .ensures)
 
 pub put-entry-spec : {M : Type 1} → statement M
 put-entry-spec =

@@ -2,15 +2,16 @@
 -- Assumes nothing.
 use Rattle.printing.proofs.Appending.{appends-then, appends-as}
 use Rattle.printing.proofs.Numerals.{first-next, later-next}
+use native.Mathlib.Omega.{arith}
 use borrow.Author.Needs.{needs}
 use Rattle.printing.proofs.lines.put_next.Statement.{statement}
 use Rattle.printing.proofs.lines.put_next.Tie as tie
 
 returns : tie.Need-returns
-returns c = appends-as (first-next _ _ (c .before .before .before .before .before .if1 .taken)) (c .before .before .put-entry .ensures)
+returns c = appends-as (first-next (c .before .before .before .before .before .before .before .before .args .k) _ (omega arith)) (c .before .before .put-entry .ensures)
 
 returns-2 : tie.Need-returns-2
-returns-2 c = appends-as (later-next _ _ (c .before .before .before .before .before .before .before .before .before .if1 .left)) (appends-then (c .before .before .before .before .before .before .before .put .ensures) (c .before .before .put-entry2 .ensures))
+returns-2 c = appends-as (later-next (c .before .before .before .before .before .before .before .before .before .before .before .before .args .k) _ (λ e. omega (arith, c .before .before .before .before .before .before .before .before .before .if1 .left))) (appends-then (c .before .before .before .before .before .before .before .put .ensures) (c .before .before .put-entry2 .ensures))
 
 pub put-next-spec : {M : Type 1} → statement M
 put-next-spec =

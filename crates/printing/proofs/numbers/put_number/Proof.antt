@@ -2,19 +2,20 @@
 -- Assumes nothing.
 use Rattle.printing.proofs.Appending.{appends-then, appends-as}
 use Rattle.printing.proofs.Numerals.{one-digit, two-digits, three-digits}
+use native.Mathlib.Omega.{arith}
 use borrow.Author.Needs.{needs}
 use Rattle.printing.proofs.numbers.put_number.Statement.{statement}
 use Rattle.printing.proofs.numbers.put_number.Tie as tie
 
 returns : tie.Need-returns
-returns c = appends-as (one-digit _ (c .before .before .before .before .if1 .taken)) (c .before .before .put-digit .ensures)
+returns c = appends-as (one-digit _ (omega arith)) (c .before .before .put-digit .ensures)
 
 returns-2 : tie.Need-returns-2
-returns-2 c = appends-as (two-digits _ (c .before .before .before .before .before .before .before .before .before .if1 .left) (c .before .before .before .before .before .before .before .before .if2 .taken)) (appends-then (c .before .before .before .before .before .before .put-digit2 .ensures) (c .before .before .put-digit3 .ensures))
+returns-2 c = appends-as (two-digits _ (omega arith) (omega arith)) (appends-then (c .before .before .before .before .before .before .put-digit2 .ensures) (c .before .before .put-digit3 .ensures))
 
 returns-3 : tie.Need-returns-3
 returns-3 c =
-    appends-as (three-digits _ (c .before .before .before .before .before .before .before .before .before .before .before .before .if2 .left))
+    appends-as (three-digits _ (omega arith))
     (appends-then (c .before .before .before .before .before .before .before .before .before .before .put-digit4 .ensures) (appends-then (c .before .before .before .before .before .before .put-digit5 .ensures) (c .before .before .put-digit6 .ensures)))
 
 pub put-number-spec : {M : Type 1} → statement M

@@ -6,18 +6,19 @@ use Prim.Native.Nat.{ℕ}
 use lib.ListN.{length}
 use Rattle.printing.specs.Printing.{Gives, fits, short}
 use Rattle.printing.specs.declared.Printed.the-variants.{Written}
+use native.Mathlib.Omega.{arith}
 use borrow.Author.Needs.{needs}
 use Rattle.printing.proofs.texts.give.Statement.{statement}
 use Rattle.printing.proofs.texts.give.Tie as tie
 
 returns : tie.Need-returns
-returns c = short (c .if1 .taken)
+returns c = short (omega arith)
 
 returns-2 : tie.Need-returns-2
 returns-2 c =
     let start = c .before .before .before .before .before .before .before in
     let written : List ℕ = start .args .written .now in
-    subst (λ (l : List ℕ). Gives written (start .args .text .now) (Written (length written)) l) (sym (c .before .before .copy .ensures)) (fits (c .before .before .before .before .if1 .left))
+    subst (λ (l : List ℕ). Gives written (start .args .text .now) (Written (length written)) l) (sym (c .before .before .copy .ensures)) (fits (omega arith))
 
 pub give-spec : {M : Type 1} → statement M
 give-spec =

@@ -1,7 +1,6 @@
 -- `printing::texts::written` meets its contract.
 -- Assumes nothing.
 use mathlib.Core.Path.{sym, ap}
-use mathlib.Core.List.{List}
 use Prim.Native.Nat.{ℕ}
 use native.Mathlib.Omega.{arith}
 use lib.ListN.{take}
