@@ -6,6 +6,13 @@ use crate::rooms::short_room_for_bytes;
 use crate::rooms::short_room_for_table;
 use crate::rooms::short_room_for_values;
 
+pub fn show(name: &[u8], sheet: &[u8]) {
+    io::write_all(1, name);
+    let mut text = room_for_text();
+    let printed = report::print_sheet(sheet, &mut text);
+    io::write_all(1, printing::written(printed, &text));
+}
+
 // Compiles with the areas that are lent.
 fn show_with(name: &[u8], sheet: &[u8], table: &mut [u8], work: &mut [u8], values: &mut [u64]) {
     io::write_all(1, name);
@@ -16,13 +23,6 @@ fn show_with(name: &[u8], sheet: &[u8], table: &mut [u8], work: &mut [u8], value
     }
     let printed = report::print_answer(compiled, &table[8..], &mut text);
     io::write_all(1, printing::written(printed, &text));
-}
-
-pub fn show(name: &[u8], sheet: &[u8]) {
-    let mut table = room_for_table();
-    let mut work = io::large_buffer();
-    let mut values = room_for_values();
-    show_with(name, sheet, &mut table, &mut work, &mut values);
 }
 
 // Areas that are one too short.
