@@ -1,8 +1,7 @@
 -- The text held against document 01's own, by computation.
 -- Assumes nothing.
 use mathlib.Core.Path.{_≡_, refl}
-use mathlib.Core.List.{List, [], _∷_}
-use Prim.Native.Nat.{ℕ}
+use mathlib.Core.List.{[], _∷_}
 use Rattle.trace.specs.declared.Mode.the-variants.{Enforced, Watched}
 use Rattle.printing.specs.Text.{tableText, refusalText, decimal}
 

@@ -3,14 +3,13 @@
 use mathlib.Core.Path.{_≡_, refl}
 use mathlib.Core.Bool.{Bool, true, false, cond}
 use mathlib.Core.List.{List, _++_}
-use Prim.Native.Nat.{ℕ, zero, suc, _+_, _*_, _≤_, _<_}
-use native.Mathlib.Nat.{le-refl}
+use Prim.Native.Nat.{ℕ, zero, suc, _+_, _*_, _≤_}
 use native.Mathlib.Omega.{arith}
 use lib.Dec.{eqb, ltb}
 use lib.ListN.{length, getD, take, drop, length-append, length-take}
 use Rattle.trace.specs.declared.Mode.{Mode}
 use Rattle.trace.specs.declared.Mode.the-variants.{Enforced, Watched}
-use Rattle.printing.specs.Text.{digit, dash, newline, blank, decimal, modeWord, spaced, counts, entryText, nextText, entriesText, rowLine, rowLines, refused, tableText, refusalText}
+use Rattle.printing.specs.Text.{dash, newline, decimal, modeWord, spaced, counts, entryText, nextText, entriesText, rowLine, rowLines, refused, tableText, refusalText}
 
 -- a choice of two
 either : (b : Bool) (x y : List ℕ) (n : ℕ) → length x ≤ n → length y ≤ n → length (cond b x y) ≤ n

@@ -3,10 +3,9 @@ use crate::numbers::put_number;
 use crate::writer::put;
 use crate::writer::put_word;
 use trace::Mode;
-ghost use mathlib.Core.List.{[], _∷_, _++_};
 ghost use Prim.Native.Nat.{_+_, _*_, _≤_, _<_};
 ghost use lib.ListN.{length, getD};
-ghost use Rattle.printing.specs.Text.{newline, modeWord, spaced, counts, entryText, nextText, entriesText, rowLine, rowLines};
+ghost use Rattle.printing.specs.Text.{modeWord, spaced, counts, entryText, nextText, entriesText, rowLine, rowLines};
 ghost use Rattle.printing.specs.Writing.{Appends};
 
 // The word for a mode.

@@ -1,7 +1,6 @@
 // Numbers below 1,000 in decimal, without leading zeros.
 use crate::writer::put;
 ghost use mathlib.Core.Path.{_≡_};
-ghost use mathlib.Core.List.{[], _∷_};
 ghost use Prim.Native.Nat.{_+_, _≤_, _<_};
 ghost use lib.ListN.{length};
 ghost use Rattle.printing.specs.Text.{decimal, digit as digitOf};

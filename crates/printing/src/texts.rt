@@ -6,7 +6,7 @@ use crate::lines::put_rows;
 use crate::writer::put_word;
 use trace::Mode;
 ghost use mathlib.Core.Path.{_≡_};
-ghost use Prim.Native.Nat.{_*_, _≤_, _<_};
+ghost use Prim.Native.Nat.{_*_, _<_};
 ghost use lib.ListN.{length, take};
 ghost use Rattle.printing.specs.Text.{tableText, refusalText};
 ghost use Rattle.printing.specs.Writing.{Appends};

@@ -2,22 +2,21 @@
 -- Assumes nothing.
 use mathlib.Core.Path.{_≡_, refl, ap, subst, _∙_}
 use mathlib.Core.List.{List, _++_}
-use Prim.Native.Nat.{ℕ, zero, suc, _+_, _*_, _≤_, _<_}
+use Prim.Native.Nat.{ℕ, zero, suc, _+_, _*_, _≤_}
 use native.Mathlib.Nat.{suc-mul}
 use native.Mathlib.Omega.{arith}
 use lib.ListN.{length, take, drop, length-append, length-drop}
 use lib.Seq.{take-append-le, drop-append-le}
 use Rattle.trace.specs.declared.Mode.{Mode}
 use Rattle.table.specs.Answer.{modeNumber}
-use Rattle.table.specs.Table.{entriesOf, rowsOf, actionsOf}
-use Rattle.sheet.specs.Sheet.{nodeCount}
+use Rattle.table.specs.Table.{entriesOf}
 use Rattle.compiler.specs.Compiles.{Answer, table, refused, Compiles, faulted, over-values, over-rows, Areas, CompilesInto, short, compiles}
 use Rattle.compiler.proofs.Facts.{facts-of}
 use Rattle.compiler.proofs.CompiledTable.{TableOf, compiled-table}
 use Rattle.printing.specs.Text.{modeWord, counts, rowLine, rowLines, tableText, refusalText}
 use Rattle.printing.specs.declared.Printed.{Printed}
 use Rattle.printing.specs.Printing.{TableInRange, RefusalInRange, Gives, PrintsTable, PrintsRefusal, out-of-range, in-range}
-use Rattle.report.specs.Report.{PrintsAnswer, AnswerText, PrintsSheet, of-table, of-refusal}
+use Rattle.report.specs.Report.{PrintsAnswer, PrintsSheet, of-table, of-refusal}
 use Rattle.report.proofs.Faults.{number-small, spot-small}
 
 -- what stands behind the rows is not read

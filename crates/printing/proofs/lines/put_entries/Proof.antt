@@ -1,13 +1,13 @@
 -- `printing::lines::put_entries` meets its contract. The loop's invariant: the first k entries are written.
 -- Assumes nothing.
-use mathlib.Core.Path.{_≡_, sym}
-use Prim.Native.Nat.{ℕ, _-_, _≤_}
+use mathlib.Core.Path.{_≡_}
+use Prim.Native.Nat.{_-_, _≤_}
 use native.Mathlib.Numerals.{add-one}
 use native.Mathlib.Omega.{arith}
 use lib.ListN.{length}
 use Rattle.printing.specs.Text.{entriesText}
 use Rattle.printing.specs.Writing.{Appends}
-use Rattle.printing.proofs.Appending.{appends-none, appends-then, appends-as}
+use Rattle.printing.proofs.Appending.{appends-none, appends-then}
 use Rattle.printing.proofs.Lengths.{length-entries}
 use borrow.Author.Needs.{needs}
 use Rattle.printing.proofs.lines.put_entries.Statement.{statement}
