@@ -3,7 +3,7 @@
 use mathlib.Core.Path.{_≡_, sym, subst}
 use mathlib.Core.List.{List}
 use Prim.Native.Nat.{ℕ}
-use Rattle.compiler.specs.Compiles.{answerOf}
+use Rattle.compiler.specs.Calling.{answerOf}
 use Rattle.compiler.specs.declared.Compiled.{Compiled}
 use Rattle.printing.specs.declared.Printed.{Printed}
 use Rattle.printing.specs.Printing.{PrintsRefusal}

@@ -5,7 +5,7 @@ use sheet::Fault;
 ghost use mathlib.Core.Path.{_≡_};
 ghost use lib.ListN.{length};
 ghost use Rattle.sheet.specs.Judge.{numberOf, spotOf};
-ghost use Rattle.compiler.specs.Compiles.{answerOf};
+ghost use Rattle.compiler.specs.Calling.{answerOf};
 ghost use Rattle.report.specs.Report.{PrintsAnswer, PrintsSheet};
 
 fn fault_number(fault: Fault) -> usize

@@ -6,7 +6,7 @@ use Prim.Native.Nat.{ℕ}
 use native.Mathlib.Omega.{arith}
 use lib.ListN.{drop, length-drop}
 use lib.Seq.{take-all}
-use Rattle.compiler.specs.Compiles.{answerOf}
+use Rattle.compiler.specs.Calling.{answerOf}
 use Rattle.report.specs.Report.{PrintsAnswer}
 use Rattle.report.proofs.Sheets.{into-printed}
 use borrow.Author.Needs.{needs}
