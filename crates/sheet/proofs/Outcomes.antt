@@ -1,6 +1,6 @@
 -- Laws of the checks of the nodes one by one: a fault stays, and a list of types that grows by one.
 -- Assumes nothing.
-use mathlib.Core.Path.{_≡_, refl, sym, ap, _∙_, fun-ext}
+use mathlib.Core.Path.{_≡_, refl, sym, ap, _∙_, subst, fun-ext}
 use mathlib.Core.List.{List}
 use Prim.Native.Nat.{ℕ, zero, suc, _+_, _*_, _-_, _≤_, _<_}
 use native.Mathlib.Decide.{ℕ-discrete, decLt}
@@ -11,8 +11,10 @@ use lib.Seq.{getD-take, getD-set-other, take-suc-set}
 use Rattle.sheet.specs.Sheet.{nodesAt, field}
 use Rattle.sheet.specs.Node.{readFields, nodeOf}
 use Rattle.sheet.specs.Types.{typeAt, typeNode}
-use Rattle.sheet.specs.Judge.{faulty, sound, judgeType, judgeNode, judgeNodes, judgeLast, judgeAll}
+use Rattle.sheet.specs.Judge.{faulty, sound, judgeType, judgeNode, judgeNodes, judgeLast, judgeAll, CountRight}
 use Rattle.sheet.specs.declared.Fault.{Fault}
+use Rattle.sheet.specs.declared.Judged.{Judged}
+use Rattle.sheet.specs.declared.Judged.the-variants.{Faulty}
 use Rattle.sheet.specs.declared.Node.{Node}
 use Rattle.sheet.specs.declared.NodeRead.the-variants.{Read}
 use Rattle.sheet.specs.declared.NodeType.{NodeType}
@@ -87,3 +89,7 @@ module _ (bytes : List ℕ) where
     -- all nodes are sound
     pub judge-last : (nodes : ℕ) → n ≡ nodes → judgeAll bytes nodes ≡ judgeLast (nodes - 1) (take nodes types) (typeAt types (nodes - 1))
     judge-last nodes e = rw (← e, before, type-first types n (n - 1) (typed .rest))
+
+-- a fault has no number of nodes
+pub fault-counts : (n : ℕ) {j : Judged} {f : Fault} → j ≡ Faulty f → CountRight n j
+fault-counts n e = subst (CountRight n) (sym e) tt

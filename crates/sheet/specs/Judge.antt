@@ -119,3 +119,8 @@ outcomeBy (Sound n) types = sound (take n types)
 
 abbrev pub outcomeOf : JudgedSheet → Outcome
 outcomeOf sheet = outcomeBy (sheet .judged) (sheet .types)
+
+-- The number in `Sound` is the number of nodes.
+abbrev pub CountRight : ℕ → Judged → Type 0
+CountRight nodes (Sound n) = n ≡ nodes
+CountRight nodes (Faulty f) = Unit {0}

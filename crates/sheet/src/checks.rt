@@ -12,7 +12,9 @@ use crate::nodes::read_node;
 use crate::types::type_at;
 use crate::types::type_node;
 ghost use mathlib.Core.Path.{_≡_};
-ghost use Rattle.sheet.specs.Judge.{NodesLaid, faulty, readFault, typeFault, judgeAll, outcomeOf};
+ghost use Rattle.sheet.specs.Sheet.{nodeCount};
+ghost use Rattle.sheet.specs.Judge.{NodesLaid, faulty, readFault, typeFault, judgeAll, outcomeOf, CountRight};
+ghost use Rattle.sheet.specs.declared.Judged.the-variants.{Faulty};
 
 // The fault of a node that fails check 4 or 5.
 fn read_fault(read: NodeRead, n: usize) -> Fault
@@ -39,6 +41,7 @@ fn type_fault(found: TypeFound, n: usize) -> Fault
 // A sheet with a fault.
 fn refused(fault: Fault) -> JudgedSheet
     ensures { λ r. ⌜ outcomeOf r ≡ faulty fault ⌝ }
+    ensures { λ r. ⌜ r .judged ≡ Faulty fault ⌝ }
 {
     JudgedSheet {
         judged: Judged::Faulty(fault),
@@ -52,6 +55,7 @@ fn refused(fault: Fault) -> JudgedSheet
 fn judge_nodes(bytes: &[u8], nodes: usize, start: usize) -> JudgedSheet
     requires { ⌜ NodesLaid (now bytes) nodes start ⌝ }
     ensures { λ r. ⌜ outcomeOf r ≡ judgeAll (now (bytes .entry)) nodes ⌝ }
+    ensures { λ r. ⌜ CountRight nodes (r .judged) ⌝ }
 {
     let mut types = [TypedNode {
         of: NodeType::Formula,
@@ -81,6 +85,7 @@ fn judge_nodes(bytes: &[u8], nodes: usize, start: usize) -> JudgedSheet
 // The first fault of any bytes, or none and the types of the nodes.
 pub fn judge(bytes: &[u8]) -> JudgedSheet
     ensures { λ r. ⌜ outcomeOf r ≡ Rattle.sheet.specs.Judge.judge (now (bytes .entry)) ⌝ }
+    ensures { λ r. ⌜ CountRight (nodeCount (now (bytes .entry))) (r .judged) ⌝ }
 {
     match find_layout(bytes) {
         Layout::Laid {

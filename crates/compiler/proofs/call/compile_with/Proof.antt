@@ -30,7 +30,7 @@ module _ (c : tie.After-enum-told) where
   array = c .before .before .before .judge .result .types
 
   sheet : SoundSheet (start .args .sheet .now) (typesOf (start .args .sheet .now) array)
-  sheet = is-sound _ _ (c .before .before .before .judge .ensures) _ (c .enum-told .given .1)
+  sheet = is-sound _ _ (c .before .before .before .judge .ensures .0) _ (c .enum-told .given .1)
 
 -- and its areas are in place
 module _ (c : tie.After-actions) where
@@ -116,7 +116,7 @@ enum-known-verdict : tie.Need-enum-known-verdict
 enum-known-verdict c = search needs
 
 returns : tie.Need-returns
-returns c = is-faulty _ _ (c .before .before .before .before .judge .ensures) _ _ _ (c .before .verdict .given .1) _
+returns c = is-faulty _ _ (c .before .before .before .before .judge .ensures .0) _ _ _ (c .before .verdict .given .1) _
 
 enum-told : tie.Need-enum-told
 enum-told c = search needs

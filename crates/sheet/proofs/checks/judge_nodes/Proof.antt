@@ -20,7 +20,7 @@ use types.Run.{OneOf}
 use denote.Enum.Declared.{tagOf}
 use Rattle.sheet.proofs.NodeRead as node-read
 use Rattle.sheet.proofs.TypeFound as type-found
-use Rattle.sheet.proofs.Outcomes.{Typed, typed-none, typed-more, node-at, fault-at, fault-type, sound-more, judge-last}
+use Rattle.sheet.proofs.Outcomes.{Typed, typed-none, typed-more, node-at, fault-at, fault-type, sound-more, judge-last, fault-counts}
 use Rattle.sheet.proofs.checks.judge_nodes.Statement.{statement}
 use Rattle.sheet.proofs.checks.judge_nodes.Tie as tie
 
@@ -66,8 +66,9 @@ module _ (c : tie.After-read-node Inv-loop μ-loop) where
 returns : tie.Need-returns Inv-loop μ-loop
 returns c =
     let a = c .before .before .before in
-    c .refused .ensures ∙ ap faulty (c .before .read-fault .ensures)
-    ∙ read-faulty a _ (not-read (n a) (take (n a) (found-so-far a)) (a .read-node .result) (c .before .before .match .keys2))
+    (c .refused .ensures .0 ∙ ap faulty (c .before .read-fault .ensures)
+    ∙ read-faulty a _ (not-read (n a) (take (n a) (found-so-far a)) (a .read-node .result) (c .before .before .match .keys2)),
+    fault-counts _ (c .refused .ensures .1))
 
 -- and was read, and its type looked for
 module _ (c : tie.After-type-node Inv-loop μ-loop) where
@@ -84,9 +85,10 @@ returns-2 : tie.Need-returns-2 Inv-loop μ-loop
 returns-2 c =
     let b = c .before .before .before in
     let a = at b in
-    c .refused2 .ensures ∙ ap faulty (c .before .type-fault .ensures)
+    (c .refused2 .ensures .0 ∙ ap faulty (c .before .type-fault .ensures)
     ∙ fault-type (bytes a) (n a) (found-so-far a) (a .before .before .loop .inv .1) (a .before .before .loop .inv .2) (node b) (node-is b) (a .before .before .before .before .args .nodes) _ (a .before .loop-test .taken)
-    (ap (judgeType (n a) (take (n a) (found-so-far a))) (sym (b .type-node .ensures)) ∙ not-found (n a) (take (n a) (found-so-far a)) (b .type-node .result) (c .before .before .match2 .keys2))
+    (ap (judgeType (n a) (take (n a) (found-so-far a))) (sym (b .type-node .ensures)) ∙ not-found (n a) (take (n a) (found-so-far a)) (b .type-node .result) (c .before .before .match2 .keys2)),
+    fault-counts _ (c .refused2 .ensures .1))
 
 loop-again : tie.Need-loop-again Inv-loop μ-loop
 loop-again c =
@@ -106,10 +108,10 @@ module _ (c : tie.After-type-at Inv-loop μ-loop) where
       ∙ rw (c .type-at .ensures)
 
 returns-3 : tie.Need-returns-3 Inv-loop μ-loop
-returns-3 c = c .refused3 .ensures ∙ sym (last-is (c .before .before .before) ∙ rw (c .before .enum-told2 .given .1))
+returns-3 c = (c .refused3 .ensures .0 ∙ sym (last-is (c .before .before .before) ∙ rw (c .before .enum-told2 .given .1)), fault-counts _ (c .refused3 .ensures .1))
 
 returns-4 : tie.Need-returns-4 Inv-loop μ-loop
-returns-4 c = sym (last-is (c .before .before) ∙ rw (c .enum-told .given .1))
+returns-4 c = (sym (last-is (c .before .before) ∙ rw (c .enum-told .given .1)), refl)
 
 pub judge-nodes-spec : {M : Type 1} → statement M
 judge-nodes-spec =
