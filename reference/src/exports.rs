@@ -1,0 +1,76 @@
+//! The C interface of include/lemondarts.h, answered by the reference.
+//! Every pointer must be valid for its length, as for the library itself.
+#![allow(clippy::missing_safety_doc)]
+
+use crate::calls;
+use std::slice::{from_raw_parts, from_raw_parts_mut};
+
+#[no_mangle]
+pub unsafe extern "C" fn lemondarts_load(table: *const u8, table_len: usize) -> u32 {
+    calls::load(from_raw_parts(table, table_len))
+}
+
+#[no_mangle]
+pub unsafe extern "C" fn lemondarts_compile(
+    sheet: *const u8,
+    sheet_len: usize,
+    out: *mut u8,
+    out_len: usize,
+    work: *mut u8,
+    work_len: usize,
+    values: *mut u64,
+    values_len: usize,
+) -> u32 {
+    calls::compile(
+        from_raw_parts(sheet, sheet_len),
+        from_raw_parts_mut(out, out_len),
+        from_raw_parts_mut(work, work_len),
+        from_raw_parts_mut(values, values_len),
+    )
+}
+
+#[no_mangle]
+pub unsafe extern "C" fn lemondarts_new_board(
+    record: *mut u8,
+    record_len: usize,
+    area: *mut u8,
+    area_len: usize,
+) -> u32 {
+    calls::new_board(from_raw_parts_mut(record, record_len), from_raw_parts_mut(area, area_len))
+}
+
+#[no_mangle]
+pub unsafe extern "C" fn lemondarts_put_on(
+    record: *mut u8,
+    record_len: usize,
+    area: *mut u8,
+    area_len: usize,
+    place: usize,
+    table: *const u8,
+    table_len: usize,
+) -> u32 {
+    let (record, area) = (from_raw_parts_mut(record, record_len), from_raw_parts_mut(area, area_len));
+    calls::put_on(record, area, place, from_raw_parts(table, table_len))
+}
+
+#[no_mangle]
+pub unsafe extern "C" fn lemondarts_take_off(
+    record: *mut u8,
+    record_len: usize,
+    area: *mut u8,
+    area_len: usize,
+    place: usize,
+) -> u32 {
+    calls::take_off(from_raw_parts_mut(record, record_len), from_raw_parts_mut(area, area_len), place)
+}
+
+#[no_mangle]
+pub unsafe extern "C" fn lemondarts_action(
+    record: *mut u8,
+    record_len: usize,
+    area: *mut u8,
+    area_len: usize,
+    action: usize,
+) -> u32 {
+    calls::action(from_raw_parts_mut(record, record_len), from_raw_parts_mut(area, area_len), action)
+}

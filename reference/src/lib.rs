@@ -1,0 +1,37 @@
+//! The reference: document 01 once more, in plain Rust, written from the document by itself.
+//! It shares no code and no algorithm with the library: remembered values are collected in hash
+//! maps, rows are minimised by Hopcroft's algorithm, and a table is judged by building it anew.
+
+pub mod board;
+pub mod calls;
+pub mod cases;
+pub mod compile;
+#[cfg(feature = "exports")]
+mod exports;
+pub mod generate;
+pub mod machine;
+pub mod meaning;
+pub mod sheet;
+pub mod table;
+pub mod values;
+
+pub use board::{Board, Verdict};
+pub use compile::compile;
+pub use table::load;
+
+/// A refusal of the compiler: document 01's number and its spot.
+#[derive(Clone, Copy, Debug, PartialEq, Eq)]
+pub struct Refusal {
+    pub number: u8,
+    pub spot: u8,
+}
+
+/// A refusal at a node.
+fn at(number: u8, node: usize) -> Refusal {
+    Refusal { number, spot: node as u8 }
+}
+
+/// The 16-bit number at an offset, low byte first.
+fn word(bytes: &[u8], offset: usize) -> usize {
+    bytes[offset] as usize + 256 * bytes[offset + 1] as usize
+}
