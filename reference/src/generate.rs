@@ -7,7 +7,7 @@ use crate::sheet::{judge, Node, Sheet, Type, HEADER, NODE};
 pub struct Random(pub u64);
 
 impl Random {
-    pub fn next(&mut self) -> u64 {
+    pub fn draw(&mut self) -> u64 {
         self.0 = self.0.wrapping_add(0x9e37_79b9_7f4a_7c15);
         let mut z = self.0;
         z = (z ^ z >> 30).wrapping_mul(0xbf58_476d_1ce4_e5b9);
@@ -17,11 +17,11 @@ impl Random {
 
     /// A number below n.
     pub fn below(&mut self, n: usize) -> usize {
-        (self.next() % n as u64) as usize
+        (self.draw() % n as u64) as usize
     }
 
     pub fn byte(&mut self) -> u8 {
-        self.next() as u8
+        self.draw() as u8
     }
 
     /// True in so many cases of a hundred.
@@ -35,7 +35,7 @@ impl Random {
 
     pub fn fill(&mut self, bytes: &mut [u8]) {
         for chunk in bytes.chunks_mut(8) {
-            let junk = self.next().to_le_bytes();
+            let junk = self.draw().to_le_bytes();
             chunk.copy_from_slice(&junk[..chunk.len()]);
         }
     }
@@ -56,17 +56,22 @@ pub struct Style {
 pub fn sheet(random: &mut Random, style: Style) -> Sheet {
     let combined = random.chance(50);
     let actions = (0..style.actions)
-        .map(|action| if combined { random.next() as u16 & random.next() as u16 } else { 1 << action })
+        .map(|action| if combined { random.draw() as u16 & random.draw() as u16 } else { 1 << action })
         .collect();
     let mut sheet = Sheet { actions, nodes: Vec::new() };
     let (mut types, mut rows) = (Vec::new(), Vec::new());
     while sheet.nodes.len() < style.nodes {
         let last = sheet.nodes.len() + 1 == style.nodes;
-        if random.chance(style.slips) {
-            sheet.nodes.push(any_node(random, types.len()));
+        let slip = random.chance(style.slips);
+        sheet.nodes.push(if slip && random.chance(50) {
+            any_node(random, types.len())
         } else {
-            sheet.nodes.push(typed_node(random, &types, style.actions, last));
-        }
+            let mut node = typed_node(random, &types, style.actions, last && !slip);
+            if slip {
+                spoil(random, &mut node, types.len());
+            }
+            node
+        });
         let here = types.len();
         let Ok(this) = judge(&sheet.nodes[here], &types) else {
             if style.inside_limits {
@@ -97,6 +102,21 @@ fn any_node(random: &mut Random, here: usize) -> Node {
     let kind = if random.chance(10) { random.byte() } else { random.below(25) as u8 };
     let mut field = |most: usize| if random.chance(50) { 0 } else { random.below(most) as u8 };
     Node { kind, argument: field(63), parts: [field(here + 2), field(here + 2), field(here + 2)] }
+}
+
+/// Another part, lower than the node, in the place of one that is used; or another argument.
+fn spoil(random: &mut Random, node: &mut Node, here: usize) {
+    let used = match node.kind {
+        1..=3 | 12 => 0,
+        4 | 10 | 11 | 13 | 16 | 17 => 1,
+        22 => 3,
+        _ => 2,
+    };
+    if used == 0 || random.chance(20) {
+        node.argument = node.argument.wrapping_add(random.pick(&[1, 255]));
+    } else {
+        node.parts[random.below(used)] = random.below(here) as u8;
+    }
 }
 
 /// A node whose parts are of the right types, of a kind for which there are such parts.

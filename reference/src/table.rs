@@ -19,7 +19,7 @@ pub struct Table {
 
 impl Table {
     /// The length that the header gives.
-    pub fn len(&self) -> usize {
+    pub fn length(&self) -> usize {
         HEADER + self.rows as usize * self.actions as usize
     }
 }
@@ -45,14 +45,14 @@ pub fn shape(bytes: &[u8]) -> Option<Table> {
         return None;
     }
     let table = Table { kind: kind as u8, actions: actions as u8, rows: rows as u8 };
-    let entries = bytes.get(HEADER..table.len())?;
+    let entries = bytes.get(HEADER..table.length())?;
     entries.iter().all(|&entry| entry < table.rows || entry == TRIP).then_some(table)
 }
 
 /// Loads a table: 10, then 11. Rows are as stated exactly when building them anew, from the
 /// sequences that they read, gives the same rows.
 pub fn load(bytes: &[u8]) -> Result<Table, u8> {
-    let table = shape(bytes).filter(|table| table.len() == bytes.len()).ok_or(10)?;
+    let table = shape(bytes).filter(|table| table.length() == bytes.len()).ok_or(10)?;
     let given = Rows { actions: table.actions as usize, entries: bytes[HEADER..].to_vec() };
     let met = Machine::explore(0, given.actions, MOST_ROWS, |&row, action| given.next(row, action));
     let anew = met.and_then(|machine| machine.canonical());

@@ -42,7 +42,7 @@ fn papers_cases() {
         }
         if let Ok(table) = result {
             let loaded = load(&table).expect(case.name);
-            assert_eq!(loaded.len(), table.len());
+            assert_eq!(loaded.length(), table.len());
         }
     }
 }

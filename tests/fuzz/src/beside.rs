@@ -1,0 +1,187 @@
+//! One call through the library and through the reference, on equal inputs; all bytes compared.
+
+use crate::lent::Lent;
+use crate::library;
+use reference::calls::{self, VALUES, WORK};
+use reference::generate::Random;
+use std::fmt::Write;
+
+/// A call of the board.
+#[derive(Clone, Copy)]
+pub enum Call<'a> {
+    New,
+    PutOn(usize, &'a [u8]),
+    TakeOff(usize),
+    Action(usize),
+}
+
+impl Call<'_> {
+    pub fn name(&self) -> &'static str {
+        match self {
+            Call::New => "new_board",
+            Call::PutOn(..) => "put_on",
+            Call::TakeOff(_) => "take_off",
+            Call::Action(_) => "action",
+        }
+    }
+}
+
+/// The areas lent to the library, and those that the reference works on.
+pub struct Beside {
+    input: Lent<u8>,
+    out: Lent<u8>,
+    work: Lent<u8>,
+    values: Lent<u64>,
+    record: Lent<u8>,
+    area: Lent<u8>,
+    expected_work: Vec<u8>,
+    expected_values: Vec<u64>,
+}
+
+/// The answer of both, or what differs.
+pub type Outcome = Result<u32, String>;
+
+impl Beside {
+    pub fn new() -> Beside {
+        Beside {
+            input: Lent::new(),
+            out: Lent::new(),
+            work: Lent::new(),
+            values: Lent::new(),
+            record: Lent::new(),
+            area: Lent::new(),
+            expected_work: Vec::new(),
+            expected_values: Vec::new(),
+        }
+    }
+
+    pub fn load(&mut self, random: &mut Random, table: &[u8]) -> Outcome {
+        self.input.hold(random, table);
+        let answer = library::load(self.input.contents());
+        let mut report = Report::new("load", answer, calls::load(table));
+        report.same("table", &mut self.input, table);
+        report.close(&[("table", table)], "")
+    }
+
+    /// Compiles with areas of these lengths, filled with junk; gives `out` as it stands then.
+    pub fn compile(&mut self, random: &mut Random, sheet: &[u8], lengths: [usize; 3]) -> (Outcome, Vec<u8>) {
+        let mut out = vec![0; lengths[0]];
+        random.fill(&mut out);
+        self.expected_work.resize(lengths[1], 0);
+        random.fill(&mut self.expected_work);
+        self.expected_values.resize(lengths[2], 0);
+        self.expected_values.iter_mut().for_each(|value| *value = random.draw());
+
+        self.input.hold(random, sheet);
+        self.out.hold(random, &out);
+        self.work.hold(random, &self.expected_work);
+        self.values.hold(random, &self.expected_values);
+        let (lent_out, lent_work) = (self.out.contents(), self.work.contents());
+        let answer = library::compile(self.input.contents(), lent_out, lent_work, self.values.contents());
+
+        let before = out.clone();
+        let expected = calls::compile(sheet, &mut out, &mut self.expected_work, &mut self.expected_values);
+        let mut report = Report::new("compile", answer, expected);
+        report.same("sheet", &mut self.input, sheet);
+        report.same("out", &mut self.out, &out);
+        report.same("work", &mut self.work, &self.expected_work);
+        report.same("values", &mut self.values, &self.expected_values);
+        let number = answer as u8;
+        if number != 0 && *self.out.contents() != before[..] {
+            report.differs("refused, but out is changed");
+        }
+        let cleared = number == 14
+            || self.work.contents()[..WORK].iter().all(|&byte| byte == 0)
+                && self.values.contents()[..VALUES].iter().all(|&value| value == 0);
+        if !cleared {
+            report.differs("a work area is not zero");
+        }
+        (report.close(&[("sheet", sheet)], &format!("lengths of out, work, values: {lengths:?}")), out)
+    }
+
+    /// Calls the board; record and area are left as the reference leaves them.
+    pub fn board(&mut self, random: &mut Random, record: &mut [u8], area: &mut [u8], call: Call) -> Outcome {
+        let (record_before, area_before) = (record.to_vec(), area.to_vec());
+        self.record.hold(random, record);
+        self.area.hold(random, area);
+        let table = if let Call::PutOn(_, table) = call { table } else { &[] };
+        self.input.hold(random, table);
+
+        let (lent_record, lent_area) = (self.record.contents(), self.area.contents());
+        let (answer, expected, number) = match call {
+            Call::New => (library::new_board(lent_record, lent_area), calls::new_board(record, area), 0),
+            Call::PutOn(place, table) => (
+                library::put_on(lent_record, lent_area, place, self.input.contents()),
+                calls::put_on(record, area, place, table),
+                place,
+            ),
+            Call::TakeOff(place) => {
+                (library::take_off(lent_record, lent_area, place), calls::take_off(record, area, place), place)
+            }
+            Call::Action(action) => {
+                (library::action(lent_record, lent_area, action), calls::action(record, area, action), action)
+            }
+        };
+        let mut report = Report::new(call.name(), answer, expected);
+        report.same("table", &mut self.input, table);
+        report.same("record", &mut self.record, record);
+        report.same("area", &mut self.area, area);
+        let changed = *self.record.contents() != record_before[..] || *self.area.contents() != area_before[..];
+        if answer as u8 != 0 && changed {
+            report.differs("refused or denied, but the board is changed");
+        }
+        let inputs = [("record", &record_before[..]), ("area", &area_before), ("table", table)];
+        report.close(&inputs, &format!("place or action {number}"))
+    }
+}
+
+/// What differs in one call.
+struct Report {
+    call: &'static str,
+    answer: u32,
+    text: String,
+}
+
+impl Report {
+    fn new(call: &'static str, answer: u32, expected: u32) -> Report {
+        let mut report = Report { call, answer, text: String::new() };
+        if answer != expected {
+            let (answer, expected) = (answer.to_le_bytes(), expected.to_le_bytes());
+            report.differs(&format!("answer {answer:?}, reference {expected:?} (number, value, actions, rows)"));
+        }
+        report
+    }
+
+    fn differs(&mut self, what: &str) {
+        writeln!(self.text, "  {what}").unwrap();
+    }
+
+    /// Holds an area's contents to what the reference has, and its guards to what they were.
+    fn same<T: Copy + PartialEq + From<u8> + std::fmt::Debug>(
+        &mut self,
+        name: &str,
+        lent: &mut Lent<T>,
+        expected: &[T],
+    ) {
+        if !lent.guarded() {
+            self.differs(&format!("{name}: written outside"));
+        }
+        let contents = lent.contents();
+        if *contents != *expected {
+            let place = (0..expected.len()).find(|&n| contents[n] != expected[n]).unwrap();
+            let (here, there) = (contents[place], expected[place]);
+            self.differs(&format!("{name}: {here:?} at {place}, reference {there:?}"));
+        }
+    }
+
+    fn close(mut self, inputs: &[(&str, &[u8])], numbers: &str) -> Outcome {
+        if self.text.is_empty() {
+            return Ok(self.answer);
+        }
+        for (name, bytes) in inputs {
+            let hex: String = bytes.iter().map(|byte| format!("{byte:02x}")).collect();
+            writeln!(self.text, "  {name}, {} bytes: {hex}", bytes.len()).unwrap();
+        }
+        Err(format!("{}: {numbers}\n{}", self.call, self.text))
+    }
+}

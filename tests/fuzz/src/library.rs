@@ -1,0 +1,72 @@
+//! The library's C interface (include/lemondarts.h), with slices for pointers and lengths.
+
+extern "C" {
+    fn lemondarts_load(table: *const u8, table_len: usize) -> u32;
+    fn lemondarts_compile(
+        sheet: *const u8,
+        sheet_len: usize,
+        out: *mut u8,
+        out_len: usize,
+        work: *mut u8,
+        work_len: usize,
+        values: *mut u64,
+        values_len: usize,
+    ) -> u32;
+    fn lemondarts_new_board(record: *mut u8, record_len: usize, area: *mut u8, area_len: usize) -> u32;
+    fn lemondarts_put_on(
+        record: *mut u8,
+        record_len: usize,
+        area: *mut u8,
+        area_len: usize,
+        place: usize,
+        table: *const u8,
+        table_len: usize,
+    ) -> u32;
+    fn lemondarts_take_off(record: *mut u8, record_len: usize, area: *mut u8, area_len: usize, place: usize) -> u32;
+    fn lemondarts_action(record: *mut u8, record_len: usize, area: *mut u8, area_len: usize, action: usize) -> u32;
+}
+
+pub fn load(table: &[u8]) -> u32 {
+    unsafe { lemondarts_load(table.as_ptr(), table.len()) }
+}
+
+pub fn compile(sheet: &[u8], out: &mut [u8], work: &mut [u8], values: &mut [u64]) -> u32 {
+    unsafe {
+        lemondarts_compile(
+            sheet.as_ptr(),
+            sheet.len(),
+            out.as_mut_ptr(),
+            out.len(),
+            work.as_mut_ptr(),
+            work.len(),
+            values.as_mut_ptr(),
+            values.len(),
+        )
+    }
+}
+
+pub fn new_board(record: &mut [u8], area: &mut [u8]) -> u32 {
+    unsafe { lemondarts_new_board(record.as_mut_ptr(), record.len(), area.as_mut_ptr(), area.len()) }
+}
+
+pub fn put_on(record: &mut [u8], area: &mut [u8], place: usize, table: &[u8]) -> u32 {
+    unsafe {
+        lemondarts_put_on(
+            record.as_mut_ptr(),
+            record.len(),
+            area.as_mut_ptr(),
+            area.len(),
+            place,
+            table.as_ptr(),
+            table.len(),
+        )
+    }
+}
+
+pub fn take_off(record: &mut [u8], area: &mut [u8], place: usize) -> u32 {
+    unsafe { lemondarts_take_off(record.as_mut_ptr(), record.len(), area.as_mut_ptr(), area.len(), place) }
+}
+
+pub fn action(record: &mut [u8], area: &mut [u8], action: usize) -> u32 {
+    unsafe { lemondarts_action(record.as_mut_ptr(), record.len(), area.as_mut_ptr(), area.len(), action) }
+}

@@ -1,0 +1,138 @@
+//! Runs random and damaged inputs through the library and the reference side by side.
+//! Arguments: number of calls, seed. Ends with the counts and `0 disagreements`, or status 1.
+
+mod beside;
+mod inputs;
+mod lent;
+mod library;
+
+use beside::{Beside, Call, Outcome};
+use inputs::{about, any_board, any_sheet, number, Pool};
+use reference::board::{AREA, PLACES, RECORD};
+use reference::calls::{VALUES, WORK};
+use reference::generate::Random;
+use reference::table::LARGEST;
+use std::collections::BTreeMap;
+
+/// So many disagreements are printed; then the run ends.
+const ENOUGH: usize = 100;
+/// Calls of one history.
+const HISTORY: usize = 40;
+
+struct Fuzz {
+    random: Random,
+    beside: Beside,
+    pool: Pool,
+    sorts: BTreeMap<&'static str, usize>,
+    /// By call and number of the answer.
+    answers: BTreeMap<(&'static str, u8), usize>,
+    calls: usize,
+    disagreements: usize,
+}
+
+impl Fuzz {
+    fn count(&mut self, sort: &'static str, call: &'static str, outcome: Outcome) {
+        self.calls += 1;
+        *self.sorts.entry(sort).or_default() += 1;
+        match outcome {
+            Ok(answer) => *self.answers.entry((call, answer as u8)).or_default() += 1,
+            Err(text) => {
+                self.disagreements += 1;
+                println!("disagreement {}, call {}, {sort}, {text}", self.disagreements, self.calls);
+            }
+        }
+    }
+
+    fn sheet(&mut self) {
+        let (sort, sheet) = any_sheet(&mut self.random);
+        let lengths = [LARGEST, WORK, VALUES].map(|length| about(&mut self.random, length));
+        let short = lengths[0] < LARGEST || lengths[1] < WORK || lengths[2] < VALUES;
+        let (outcome, out) = self.beside.compile(&mut self.random, &sheet, lengths);
+        if let Ok(answer) = &outcome {
+            let [number, _, actions, rows] = answer.to_le_bytes();
+            if number == 0 {
+                self.pool.keep(&mut self.random, &out[..8 + actions as usize * rows as usize]);
+            }
+        }
+        self.count(if short { "sheet, an area too short" } else { sort }, "compile", outcome);
+    }
+
+    fn table(&mut self) {
+        let actions = 1 + self.random.below(16);
+        let (sort, table) = self.pool.any_table(&mut self.random, actions);
+        let outcome = self.beside.load(&mut self.random, &table);
+        self.count(sort, "load", outcome);
+    }
+
+    /// One call on a board of any bytes.
+    fn board(&mut self) {
+        let mut board = any_board(&mut self.random, &self.pool);
+        self.call(board.sort, &mut board.record, &mut board.area, board.actions, 10);
+    }
+
+    /// A history of calls from a new board.
+    fn history(&mut self) {
+        let random = &mut self.random;
+        let actions = if random.chance(75) { 1 + random.below(4) } else { 1 + random.below(16) };
+        let mut record = vec![0; RECORD + random.below(20)];
+        let mut area = vec![0; AREA + random.below(20)];
+        random.fill(&mut record);
+        random.fill(&mut area);
+        let outcome = self.beside.board(&mut self.random, &mut record, &mut area, Call::New);
+        self.count("history", "new_board", outcome);
+        for _ in 0..HISTORY {
+            self.call("history", &mut record, &mut area, actions, 0);
+        }
+    }
+
+    /// Some call on a board, in so many cases of a hundred a new board.
+    fn call(&mut self, sort: &'static str, record: &mut [u8], area: &mut [u8], actions: usize, new: usize) {
+        let random = &mut self.random;
+        let place = number(random, PLACES);
+        let others = if random.chance(95) { actions } else { 1 + random.below(16) };
+        let table =
+            if random.chance(80) { self.pool.accepted(random, others) } else { self.pool.any_table(random, others).1 };
+        let call = match random.below(100) {
+            n if n < new => Call::New,
+            0..=29 => Call::PutOn(place, &table),
+            30..=41 => Call::TakeOff(place),
+            _ => Call::Action(number(random, actions)),
+        };
+        let outcome = self.beside.board(random, record, area, call);
+        self.count(sort, call.name(), outcome);
+    }
+}
+
+fn main() {
+    let mut arguments = std::env::args().skip(1).map(|word| word.parse::<u64>().expect("a number"));
+    let calls = arguments.next().unwrap_or(1_200_000) as usize;
+    let seed = arguments.next().unwrap_or(1);
+    let mut fuzz = Fuzz {
+        random: Random(seed),
+        beside: Beside::new(),
+        pool: Pool::new(),
+        sorts: BTreeMap::new(),
+        answers: BTreeMap::new(),
+        calls: 0,
+        disagreements: 0,
+    };
+    while fuzz.calls < calls && fuzz.disagreements < ENOUGH {
+        match fuzz.random.below(100) {
+            0..=39 => fuzz.sheet(),
+            40..=69 => fuzz.table(),
+            70..=98 => fuzz.board(),
+            _ => fuzz.history(),
+        }
+    }
+    println!("inputs by sort");
+    fuzz.sorts.iter().for_each(|(sort, count)| println!("{count:>9}  {sort}"));
+    println!("answers by call and number (0 done, 255 denied)");
+    for name in ["compile", "load", "new_board", "put_on", "take_off", "action"] {
+        let of_call = fuzz.answers.iter().filter(|((call, _), _)| *call == name);
+        let list: Vec<String> = of_call.map(|((_, number), count)| format!("{number}: {count}")).collect();
+        println!("{name:>9}  {}", list.join(", "));
+    }
+    println!("{} calls, seed {seed}", fuzz.calls);
+    println!("{} disagreements", fuzz.disagreements);
+    std::process::exit((fuzz.disagreements > 0) as i32);
+}
