@@ -129,6 +129,16 @@ pub fn two_counts(first: u8, second: u8) -> Tree {
     or(ignoring(prop(0), count(first)), ignoring(prop(1), count(second)))
 }
 
+/// 1,022 values and 25 rows with the two actions: copies at many points, of which few matter.
+pub fn many_values() -> Tree {
+    copies_of(10, 8)
+}
+
+/// Eventually, behind p0, so many actions or so many without p1.
+pub fn copies_of(all: u8, some: u8) -> Tree {
+    eventually(after_watched(now(prop(0)), or(count(all), ignoring(prop(1), count(some)))))
+}
+
 /// Node 0 Count 60, each next node After- of the one before twice.
 pub fn tower(nodes: u8) -> Vec<u8> {
     let mut all = vec![Node { kind: 12, argument: 60, parts: [0; 3] }];

@@ -106,16 +106,17 @@ fn any_node(random: &mut Random, here: usize) -> Node {
 
 /// Another part, lower than the node, in the place of one that is used; or another argument.
 fn spoil(random: &mut Random, node: &mut Node, here: usize) {
-    let used = match node.kind {
-        1..=3 | 12 => 0,
-        4 | 10 | 11 | 13 | 16 | 17 => 1,
-        22 => 3,
-        _ => 2,
-    };
-    if used == 0 || random.chance(20) {
-        node.argument = node.argument.wrapping_add(random.pick(&[1, 255]));
-    } else {
-        node.parts[random.below(used)] = random.below(here) as u8;
+    let any_part = random.below(here.max(1)) as u8;
+    match node.kind {
+        1..=3 | 12 => node.argument = random.pick(&[0, 1, 15, 16, 60, 61, 255]),
+        4 | 10 | 11 | 13 | 16 | 17 => node.parts[0] = any_part,
+        22 if random.chance(60) => {
+            // Small, so that it is the bound of some part or of a part's part.
+            node.argument = 1 + random.below(4) as u8;
+            node.parts[0] = any_part;
+        }
+        22 => node.parts[1 + random.below(2)] = any_part,
+        _ => node.parts[random.below(2)] = any_part,
     }
 }
 

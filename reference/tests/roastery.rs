@@ -55,6 +55,17 @@ fn sheet_of_78_bytes() {
 }
 
 #[test]
+fn values_at_the_limit() {
+    let explored = |tree: Tree| reference::compile::machines(&tree.sheet(&TWO)).unwrap().pop().unwrap();
+    assert_eq!(explored(many_values()).states(), 1022);
+    assert_eq!(compile(&many_values().sheet(&TWO).bytes()).unwrap()[4], 25);
+    // 31 rows or tripped, twice, less both tripped: 1,023 values; one row more is over the limit.
+    let both = |k| tree(14, 0, [ignoring(prop(0), count(31)), ignoring(prop(1), count(k))]);
+    assert_eq!(compile(&both(31).sheet(&TWO).bytes()), refused(9, 5));
+    assert_eq!(compile(&both(32).sheet(&TWO).bytes()), refused(8, 6));
+}
+
+#[test]
 fn layout() {
     let good = count(2).sheet(&ROASTERY).bytes();
     let with = |changes: &[(usize, u8)]| {

@@ -48,7 +48,7 @@ pub fn any_sheet(random: &mut Random) -> (&'static str, Vec<u8>) {
     match random.below(100) {
         0..=29 => ("sheet, well typed", drawn(random, style)),
         30..=44 => ("sheet, inside the limits", drawn(random, Style { inside_limits: true, ..style })),
-        45..=54 => ("sheet, with slips", drawn(random, Style { slips: 5, ..style })),
+        45..=54 => ("sheet, with slips", drawn(random, Style { slips: 10, ..style })),
         55..=59 => ("sheet, any nodes", drawn(random, Style { slips: 100, ..style })),
         60..=63 => ("sheet, near the limits", near_the_limits(random)),
         64..=65 => ("sheet, bounds near 65,534", near_the_largest_bound(random)),
@@ -111,7 +111,8 @@ fn near_the_limits(random: &mut Random) -> Vec<u8> {
     use reference::cases::*;
     let about = |random: &mut Random, k: u8| k - 2 + random.below(5) as u8;
     let actions: Vec<u16> = (0..2 + random.below(4)).map(|_| random.below(4) as u16).collect();
-    let policy = match random.below(6) {
+    let policy = match random.below(7) {
+        6 => copies_of(about(random, 9), about(random, 7)),
         0 => two_counts(about(random, 32), about(random, 32)),
         1 => two_counts(about(random, 16), about(random, 58).min(60)),
         2 => after_watched(count(about(random, 58)), count(1 + random.below(6) as u8)),
@@ -145,12 +146,14 @@ fn near_the_largest_bound(random: &mut Random) -> Vec<u8> {
             }
         });
     }
-    let (sum, not) = (sum.unwrap_or(0), nodes.len() as u8);
-    match random.below(3) {
-        0 => nodes.push(node(20, 0, [sum, 0, 0])),
-        1 => nodes.extend([node(13, 0, [sum, 0, 0]), node(21, 0, [0, not, 0])]),
-        _ => nodes.extend([node(13, 0, [sum, 0, 0]), node(22, 1, [0, not, not])]),
-    }
+    let (sum, large, small) = (sum.unwrap_or(0), nodes.len() as u8, nodes.len() as u8 + 1);
+    nodes.extend([node(13, 0, [sum, 0, 0]), node(13, 0, [0; 3])]);
+    nodes.push(match random.below(4) {
+        0 => node(20, 0, [sum, 0, 0]),
+        1 => node(21, 0, [0, large, 0]),
+        2 => node(22, 1, [0, large, small]),
+        _ => node(22, 1, [0, small, large]),
+    });
     let sheet = Sheet { actions: vec![random.draw() as u16], nodes };
     lay_out(random, &sheet)
 }
