@@ -139,6 +139,18 @@ pub fn copies_of(all: u8, some: u8) -> Tree {
     eventually(after_watched(now(prop(0)), or(count(all), ignoring(prop(1), count(some)))))
 }
 
+/// Fulfilling 60 whose a is p0 within the first 32 actions and 28 actions more. While it waits there
+/// are 956 values: 32 before p0, 28 rows behind it at 32 counts each, and a spent row at 28 counts.
+/// Then come as many for each of b and c as they have rows.
+pub fn long_wait(rows: u8) -> Tree {
+    let mut within = now(prop(0));
+    for half in [1, 2, 4, 8, 16] {
+        within = or(within.clone(), after_watched(count(half), within));
+    }
+    let then = not(count(rows));
+    fulfilling(60, after_watched(within, count(28)), then.clone(), then)
+}
+
 /// Node 0 Count 60, each next node After- of the one before twice.
 pub fn tower(nodes: u8) -> Vec<u8> {
     let mut all = vec![Node { kind: 12, argument: 60, parts: [0; 3] }];

@@ -63,6 +63,14 @@ fn values_at_the_limit() {
     let both = |k| tree(14, 0, [ignoring(prop(0), count(31)), ignoring(prop(1), count(k))]);
     assert_eq!(compile(&both(31).sheet(&TWO).bytes()), refused(9, 5));
     assert_eq!(compile(&both(32).sheet(&TWO).bytes()), refused(8, 6));
+    // Both rows and "released": 31 * 33 + 1 = 1,024 values, 32 * 32 + 1 are over.
+    let before = |j, k| tree(18, 0, [ignoring(prop(0), count(j)), ignoring(prop(1), count(k))]);
+    assert_eq!(compile(&before(31, 33).sheet(&TWO).bytes()), refused(9, 6));
+    assert_eq!(compile(&before(32, 32).sheet(&TWO).bytes()), refused(8, 5));
+    // b and c are told apart, also where they are one node: 956 + 2 * 34 = 1,024 values.
+    let last = |rows| long_wait(rows).sheet(&TWO).nodes.len() as u8 - 1;
+    assert_eq!(compile(&long_wait(34).sheet(&TWO).bytes()), refused(9, last(34)));
+    assert_eq!(compile(&long_wait(35).sheet(&TWO).bytes()), refused(8, last(35)));
 }
 
 #[test]

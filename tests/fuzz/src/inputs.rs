@@ -52,7 +52,8 @@ pub fn any_sheet(random: &mut Random) -> (&'static str, Vec<u8>) {
         55..=59 => ("sheet, any nodes", drawn(random, Style { slips: 100, ..style })),
         60..=63 => ("sheet, near the limits", near_the_limits(random)),
         64..=65 => ("sheet, bounds near 65,534", near_the_largest_bound(random)),
-        66..=89 => {
+        66 => ("sheet, Fulfilling", small_fulfilling(random)),
+        67..=89 => {
             let mut bytes = drawn(random, style);
             damage(random, &mut bytes);
             ("sheet, damaged", bytes)
@@ -111,7 +112,8 @@ fn near_the_limits(random: &mut Random) -> Vec<u8> {
     use reference::cases::*;
     let about = |random: &mut Random, k: u8| k - 2 + random.below(5) as u8;
     let actions: Vec<u16> = (0..2 + random.below(4)).map(|_| random.below(4) as u16).collect();
-    let policy = match random.below(7) {
+    let policy = match random.below(8) {
+        7 => long_wait(about(random, 35)),
         6 => copies_of(about(random, 9), about(random, 7)),
         0 => two_counts(about(random, 32), about(random, 32)),
         1 => two_counts(about(random, 16), about(random, 58).min(60)),
@@ -126,6 +128,28 @@ fn near_the_limits(random: &mut Random) -> Vec<u8> {
     };
     let actions = if random.chance(60) { TWO.to_vec() } else { actions };
     let sheet: Sheet = policy.sheet(&actions);
+    lay_out(random, &sheet)
+}
+
+/// Fulfilling of a small a, whose bound is k, is near it, or is none.
+fn small_fulfilling(random: &mut Random) -> Vec<u8> {
+    use reference::cases::*;
+    let k = 1 + random.below(5) as u8;
+    let other = count(1 + random.below(5) as u8);
+    let a = match random.below(9) {
+        0 => count(k),
+        1 => now(prop(0)),
+        2 => ignoring(prop(0), count(k)),
+        3 => eventually(count(k)),
+        4 => not(not(count(k))),
+        5 => tree(random.pick(&[14, 15]), 0, [count(k), other]),
+        6 => tree(18, 0, [other, count(k)]),
+        7 => tree(18, 0, [eventually(now(prop(1))), count(k)]),
+        _ => after_watched(other, ignoring(no(), count(k))),
+    };
+    let wait = if random.chance(60) { k } else { 1 + random.below(8) as u8 };
+    let (b, c) = (holds(prop(1)), always(holds(but(prop(0)))));
+    let sheet = fulfilling(wait, a, b, c).sheet(&[1, 2, 0]);
     lay_out(random, &sheet)
 }
 
@@ -148,7 +172,9 @@ fn near_the_largest_bound(random: &mut Random) -> Vec<u8> {
     }
     let (sum, large, small) = (sum.unwrap_or(0), nodes.len() as u8, nodes.len() as u8 + 1);
     nodes.extend([node(13, 0, [sum, 0, 0]), node(13, 0, [0; 3])]);
-    nodes.push(match random.below(4) {
+    nodes.extend([node(1, 0, [0; 3]), node(23, 0, [small + 1, sum, 0])]);
+    nodes.push(match random.below(5) {
+        4 => node(20, 0, [small + 2, sum, 0]), // no bound at all
         0 => node(20, 0, [sum, 0, 0]),
         1 => node(21, 0, [0, large, 0]),
         2 => node(22, 1, [0, large, small]),
