@@ -22,7 +22,7 @@ const BATCH: f64 = 2000.0;
 const ACTIONS: usize = 64;
 
 /// The medians of some functions in microseconds a call; repetitions go round all of them.
-pub fn medians<const N: usize>(mut functions: [&mut dyn FnMut(); N]) -> [f64; N] {
+fn medians<const N: usize>(mut functions: [&mut dyn FnMut(); N]) -> [f64; N] {
     let mut time = |function: usize, calls: usize| {
         let start = Instant::now();
         (0..calls).for_each(|_| functions[function]());
@@ -36,10 +36,12 @@ pub fn medians<const N: usize>(mut functions: [&mut dyn FnMut(); N]) -> [f64; N]
     for _ in 0..REPETITIONS {
         (0..N).for_each(|function| times[function].push(time(function, calls[function])));
     }
-    times.map(|mut times| {
-        times.sort_by(f64::total_cmp);
-        times[REPETITIONS / 2]
-    })
+    times.map(median)
+}
+
+fn median(mut times: Vec<f64>) -> f64 {
+    times.sort_by(f64::total_cmp);
+    times[times.len() / 2]
 }
 
 /// Prints times of one call, given for `calls` calls together.
@@ -49,21 +51,23 @@ fn line(call: &str, on: &str, calls: usize, [library, reference]: [f64; 2], scan
     println!("{}", scan.map_or(String::new(), |scan| format!(" {:10.3} {:7.2}", each(scan), library / scan)));
 }
 
-fn compile(on: &str, sheets: &[Vec<u8>]) -> f64 {
+/// The library's compiler over some sheets, with areas of its own.
+fn compiler(sheets: &[Vec<u8>]) -> impl FnMut() + '_ {
     let (mut out, mut work, mut values) = (vec![0; LARGEST], vec![0; WORK], vec![0; VALUES]);
-    let mut by_library = || {
+    move || {
         for sheet in sheets {
             black_box(library::compile(black_box(sheet), &mut out, &mut work, &mut values));
         }
-    };
+    }
+}
+
+fn compile(on: &str, sheets: &[Vec<u8>]) {
     let mut by_reference = || {
         for sheet in sheets {
             let _ = black_box(reference::compile(black_box(sheet)));
         }
     };
-    let times = medians([&mut by_library, &mut by_reference]);
-    line("compile", on, sheets.len(), times, None);
-    times[0]
+    line("compile", on, sheets.len(), medians([&mut compiler(sheets), &mut by_reference]), None);
 }
 
 fn load(on: &str, tables: &[Vec<u8>]) {
@@ -148,12 +152,15 @@ fn tables_of(sheets: &[Vec<u8>], actions: u8) -> Vec<Vec<u8>> {
 }
 
 fn main() {
-    println!("Times in microseconds a call: medians of {REPETITIONS} repetitions that go round the columns,");
-    println!("each of calls for {} ms or of one call. Ratios are of the library's time to", BATCH / 1000.0);
-    println!("the column's left of them. No buffer is cleared first: a call finds its areas as the call");
-    println!("before it left them, in the cache. The library's compiler clears its two work areas in each");
-    println!("call, and the time has that; the reference takes its memory from the heap. The scan adds up");
-    println!("the bytes of the tables that are on: what the check of the board has to read.\n");
+    println!("Times in microseconds a call: medians of {REPETITIONS} repetitions that go round the columns, each of");
+    println!(
+        "as many calls as take {} ms, at least one. A ratio is the library's time by that of the column",
+        BATCH / 1000.0
+    );
+    println!("before it. No buffer is cleared first: a call finds its areas as the call before left them, in");
+    println!("the cache. The library's compiler clears its work areas in each call, and its time has that;");
+    println!("the reference takes memory from the heap. The scan adds up the bytes of the tables that are");
+    println!("on, which is what the check of the board has to read at each action.\n");
     println!(
         "{:9} {:42} {:>10} {:>10} {:>7} {:>10} {:>7}",
         "call", "on", "library", "reference", "ratio", "scan", "ratio"
@@ -168,7 +175,7 @@ fn main() {
     let style = Style { actions: 16, nodes: 64, inside_limits: true, slips: 0 };
     let seeded: Vec<Sheet> = (0..20).map(|_| sheet(&mut random, style)).collect();
     let seeded_bytes: Vec<Vec<u8>> = seeded.iter().map(Sheet::bytes).collect();
-    let seeded_time = compile("20 seeded sheets, 64 nodes, 16 actions", &seeded_bytes);
+    compile("20 seeded sheets, 64 nodes, 16 actions", &seeded_bytes);
     board_calls("their tables", &tables_of(&seeded_bytes, 16));
 
     // Sheets at the limits.
@@ -176,8 +183,8 @@ fn main() {
     let many_values = many_values().sheet(&TWO);
     let all_values = two_counts(32, 32).sheet(&TWO);
     let full = after_watched(count(60), count(4));
-    let many_time = compile("1,022 values, 25 rows", &[many_values.bytes()]);
-    let all_time = compile("1,024 values, refused 9", &[all_values.bytes()]);
+    compile("1,022 values, 25 rows", &[many_values.bytes()]);
+    compile("1,024 values, refused 9", &[all_values.bytes()]);
     compile("over 1,024 values, refused 8", &[two_counts(33, 32).sheet(&TWO).bytes()]);
     let full_sheets = [full.sheet(&sixteen).bytes(), not(full).sheet(&sixteen).bytes()];
     compile("64 rows, 16 actions", &full_sheets);
@@ -187,8 +194,7 @@ fn main() {
     println!("for it alone: its column is the whole compilation.\n");
     let program = std::env::args().nth(1);
     openfst::header();
-    let seeded_machines = seeded.iter().flat_map(openfst::machines).collect();
-    openfst::compare("20 seeded sheets, 64 nodes, 16 actions", program.as_deref(), seeded_machines, seeded_time);
-    openfst::compare("1,022 values, 25 rows", program.as_deref(), openfst::machines(&many_values), many_time);
-    openfst::compare("1,024 values, refused 9", program.as_deref(), openfst::machines(&all_values), all_time);
+    openfst::compare("20 seeded sheets, 64 nodes, 16 actions", program.as_deref(), &seeded);
+    openfst::compare("1,022 values, 25 rows", program.as_deref(), &[many_values]);
+    openfst::compare("1,024 values, refused 9", program.as_deref(), &[all_values]);
 }

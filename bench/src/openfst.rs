@@ -1,6 +1,6 @@
 //! Minimisation by the reference and by OpenFst, on the machines that a sheet's nodes explore.
 
-use crate::{medians, REPETITIONS};
+use crate::{compiler, median, medians, REPETITIONS};
 use reference::compile::{build, machine};
 use reference::machine::Machine;
 use reference::sheet::Sheet;
@@ -10,8 +10,10 @@ use std::hint::black_box;
 use std::io::Write as _;
 use std::process::{Command, Stdio};
 
+const ROUNDS: usize = 5;
+
 /// The machines of a sheet's nodes before minimisation, up to the first that is refused.
-pub fn machines(sheet: &Sheet) -> Vec<Machine> {
+fn machines(sheet: &Sheet) -> Vec<Machine> {
     let types = sheet.types().expect("a sheet that passes 1 to 7");
     let formulas = sheet.formula_sets();
     let (mut all, mut rows) = (Vec::new(), Vec::new());
@@ -31,18 +33,28 @@ pub fn header() {
     );
 }
 
-pub fn compare(name: &str, program: Option<&str>, machines: Vec<Machine>, library: f64) {
-    let states: usize = machines.iter().map(Machine::states).sum();
+pub fn compare(name: &str, program: Option<&str>, sheets: &[Sheet]) {
+    let machines: Vec<Machine> = sheets.iter().flat_map(machines).collect();
+    let bytes: Vec<Vec<u8>> = sheets.iter().map(Sheet::bytes).collect();
     let mut minimise = || {
         for machine in &machines {
             black_box(black_box(machine).canonical());
         }
     };
-    let [reference] = medians([&mut minimise]);
+    // In rounds, so that all see the machine alike.
+    let mut times = [Vec::new(), Vec::new(), Vec::new()];
+    for _ in 0..ROUNDS {
+        let [library, reference] = medians([&mut compiler(&bytes), &mut minimise]);
+        times[0].push(library);
+        times[1].push(reference);
+        times[2].push(program.map_or(0.0, |program| by_openfst(program, &machines)));
+    }
+    let [library, reference, openfst] = times.map(median);
+    let states: usize = machines.iter().map(Machine::states).sum();
     print!("{name:42} {states:8} {library:10.1} {reference:10.1}");
-    match program.map(|program| by_openfst(program, &machines)) {
+    match program {
         None => println!("  libfst-dev is missing"),
-        Some(openfst) => println!(" {openfst:10.1} {:11.2} {:11.2}", library / openfst, reference / openfst),
+        Some(_) => println!(" {openfst:10.1} {:11.2} {:11.2}", library / openfst, reference / openfst),
     }
 }
 
