@@ -1,6 +1,7 @@
 //! Seeded inputs: a small generator of numbers, and sheets over all kinds.
 
 use crate::compile::build;
+use crate::machine::Rows;
 use crate::sheet::{judge, Node, Sheet, Type, HEADER, NODE};
 
 /// Splitmix64.
@@ -46,7 +47,7 @@ impl Random {
 pub struct Style {
     pub actions: usize,
     pub nodes: usize,
-    /// Draw a node again where 7, 8 or 9 would refuse it.
+    /// Draw a node again where 7, 8 or 9 would refuse it, and mostly where it trips never or always.
     pub inside_limits: bool,
     /// In so many cases of a hundred a node's fields are drawn without regard to types.
     pub slips: usize,
@@ -85,9 +86,13 @@ pub fn sheet(random: &mut Random, style: Style) -> Sheet {
         types.push(this);
         if style.inside_limits {
             let formulas = sheet.formula_sets();
-            match build(&sheet, &types, &formulas, &rows, here) {
-                Ok(built) => rows.push(built),
-                Err(_) => {
+            let built = build(&sheet, &types, &formulas, &rows, here);
+            // Policies that trip never, or by every action, are mostly done without: they spread.
+            let constant = |rows: &Rows| rows.count() == 1 && rows.entries.iter().all(|&next| next == rows.entries[0]);
+            let dull = matches!(&built, Ok(Some(rows)) if constant(rows)) && random.chance(85);
+            match built {
+                Ok(built) if !dull => rows.push(built),
+                _ => {
                     sheet.nodes.pop();
                     types.pop();
                 }
@@ -131,7 +136,7 @@ fn typed_node(random: &mut Random, types: &[Type], actions: usize, policy: bool)
     let bounded = of(|this| matches!(this, Type::Watched(Some(1..=60))));
     loop {
         let kind = match random.below(100) {
-            0..=19 => 1 + random.below(6) as u8,
+            0..=19 => random.pick(&[1, 2, 3, 3, 3, 3, 3, 4, 5, 6]),
             20..=39 => 10 + random.below(3) as u8,
             _ => 10 + random.below(14) as u8,
         };

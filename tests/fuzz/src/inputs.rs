@@ -46,8 +46,8 @@ pub fn any_sheet(random: &mut Random) -> (&'static str, Vec<u8>) {
         lay_out(random, &sheet)
     };
     match random.below(100) {
-        0..=29 => ("sheet, well typed", drawn(random, style)),
-        30..=44 => ("sheet, inside the limits", drawn(random, Style { inside_limits: true, ..style })),
+        0..=19 => ("sheet, well typed", drawn(random, style)),
+        20..=44 => ("sheet, inside the limits", drawn(random, Style { inside_limits: true, ..style })),
         45..=54 => ("sheet, with slips", drawn(random, Style { slips: 10, ..style })),
         55..=59 => ("sheet, any nodes", drawn(random, Style { slips: 100, ..style })),
         60..=63 => ("sheet, near the limits", near_the_limits(random)),
