@@ -16,7 +16,7 @@ use reference::table::LARGEST;
 use std::hint::black_box;
 use std::time::Instant;
 
-const REPETITIONS: usize = 15;
+const REPETITIONS: usize = 41;
 /// Microseconds that one repetition takes at least.
 const BATCH: f64 = 2000.0;
 const ACTIONS: usize = 64;
