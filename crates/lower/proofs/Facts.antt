@@ -1,9 +1,8 @@
 -- The policy nodes of a sound sheet: each has its type, is the policy of its rule over its parts, and its parts are earlier policy nodes.
 -- Counts are 1 to 60. Assumes nothing.
 use mathlib.Core.Path.{_≡_, refl, sym, ap, subst, _∙_}
-use mathlib.Core.Bool.{not}
 use mathlib.Core.List.{List}
-use Prim.Native.Nat.{ℕ, suc, _-_, _≤_, _<_}
+use Prim.Native.Nat.{ℕ, suc, _<_}
 use native.Mathlib.Nat.{lt-suc-self}
 use native.Mathlib.Omega.{arith}
 use lib.ListN.{getD}
@@ -12,21 +11,20 @@ use Rattle.trace.specs.declared.Mode.the-variants.{Watched, Enforced}
 use Rattle.policy.specs.declared.Bound.{Bound}
 use Rattle.policy.specs.declared.Typing.{Typing}
 use Rattle.policy.specs.declared.Typing.the-variants.{Typed, Untyped}
-use Rattle.policy.specs.Formula.{Formula as ActionFormula, always-false, holds}
+use Rattle.policy.specs.Formula.{always-false, holds}
 use Rattle.policy.specs.Policy.{Policy as APolicy}
 use Rattle.policy.specs.Typing.{typeOf}
-use Rattle.policy.specs.Rule.{Rule, opening, counting, same, both, either, copied, until, then, timed, filtered, onParts, onWatched, ruleOf}
+use Rattle.rules.specs.Codes.{CountFits}
+use Rattle.policy.specs.Rule.{Rule, both, either, onParts, onWatched, ruleOf}
 use Rattle.policy.specs.Parts.{AllParts}
 use Rattle.sheet.specs.Sheet.{nodeCount, propositionsOf}
-use Rattle.sheet.specs.Node.{nodeOf}
 use Rattle.sheet.specs.Types.{typeAt}
-use Rattle.sheet.specs.Meaning.{Meaning, formula, asFormula, asPolicy, meaningOf, meanings, nodePolicy}
+use Rattle.sheet.specs.Meaning.{Meaning, formula, asPolicy, meaningOf, meanings, nodePolicy}
 use Rattle.sheet.specs.Plain.{PartsBelow, ArgumentFits, SoundNode, SoundSheet}
 use Rattle.sheet.specs.declared.Node.{Node}
 use Rattle.sheet.specs.declared.Node.the-variants.{True, False, Proposition, Negation, Conjunction, Disjunction, Now, Holds, Count, Not, And, Or, Eventually, Always, BeforeMinus, BeforePlus, AfterMinus, AfterPlus, Fulfilling, Ignoring}
-use Rattle.sheet.specs.declared.NodeRead.the-variants.{Read}
 use Rattle.sheet.specs.declared.NodeType.{NodeType}
-use Rattle.sheet.specs.declared.NodeType.the-variants.{Formula, Policy}
+use Rattle.sheet.specs.declared.NodeType.the-variants.{Policy}
 use Rattle.sheet.specs.declared.TypedNode.{TypedNode}
 use Rattle.sheet.proofs.Meanings.{meaning-of, meaning-stays, policy-of}
 use Rattle.lower.specs.Nodes.{ruleBy, ruleRead, nodeRule}
@@ -41,19 +39,6 @@ by-either : (Q : Rule ℕ → Type 0) (t : Typing) (r s : Rule ℕ) → Q r → 
 by-either Q (Typed Watched k) r s p q = p
 by-either Q (Typed Enforced k) r s p q = q
 by-either Q Untyped r s p q = p
-
--- counts are 1 to 60
-abbrev CountFits : Rule ℕ → Type 0
-CountFits (opening hit) = Unit {0}
-CountFits (counting k) = (1 ≤ k) × (k ≤ 60)
-CountFits (same a) = Unit {0}
-CountFits (both a b) = Unit {0}
-CountFits (either a b) = Unit {0}
-CountFits (copied a) = Unit {0}
-CountFits (until a b) = Unit {0}
-CountFits (then a b) = Unit {0}
-CountFits (timed k a b c) = (1 ≤ k) × (k ≤ 60)
-CountFits (filtered hit a) = Unit {0}
 
 module _ (bytes : List ℕ) where
   abbrev means : ℕ → Meaning
@@ -145,14 +130,8 @@ module _ (bytes : List ℕ) (types : List TypedNode) (sheet : SoundSheet bytes t
   rule-is : nodeRule bytes n ≡ ruleBy bytes (sound-node .node)
   rule-is = ap (ruleRead bytes) (sound-node .read)
 
-  count-fits : CountFits (nodeRule bytes n)
+  pub count-fits : CountFits (nodeRule bytes n)
   count-fits = subst CountFits (sym rule-is) (count-node bytes (sound-node .node) (sound-node .argument))
-
-  pub counting-fits : (k : ℕ) → nodeRule bytes n ≡ counting k → (1 ≤ k) × (k ≤ 60)
-  counting-fits k e = subst CountFits e count-fits
-
-  pub timed-fits : (k a b c : ℕ) → nodeRule bytes n ≡ timed k a b c → (1 ≤ k) × (k ≤ 60)
-  timed-fits k a b c e = subst CountFits e count-fits
 
   module _ {m : Mode} {k : Bound} (policy : typeAt types n ≡ Policy m k) where
     fits : Fitting (typeAt types) (Policy m k) (sound-node .node)

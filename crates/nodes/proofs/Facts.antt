@@ -1,37 +1,22 @@
 -- A sound sheet gives what the compiler takes of it.
 -- Assumes nothing.
-use mathlib.Core.Path.{_≡_, refl}
+use mathlib.Core.Path.{_≡_}
 use mathlib.Core.List.{List}
 use Prim.Native.Nat.{ℕ, _<_}
 use Rattle.trace.specs.declared.Mode.{Mode}
 use Rattle.policy.specs.declared.Bound.{Bound}
-use Rattle.policy.specs.Rule.{Rule, opening, counting, same, both, either, copied, until, then, timed, filtered}
 use Rattle.sheet.specs.Sheet.{nodeCount}
 use Rattle.sheet.specs.Types.{typeAt}
 use Rattle.sheet.specs.Plain as plain
 use Rattle.sheet.specs.declared.TypedNode.{TypedNode}
 use Rattle.sheet.specs.declared.NodeType.the-variants.{Policy}
 use Rattle.sheet.proofs.Sound.{sound-sheet}
-use Rattle.lower.specs.Nodes.{nodeRule}
-use Rattle.lower.proofs.Facts.{node-type, node-rule, node-parts, counting-fits, timed-fits}
+use Rattle.lower.proofs.Facts.{node-type, node-rule, node-parts, count-fits}
 use Rattle.nodes.specs.Compiles.{SoundSheet, PolicyNode}
-use Rattle.rules.specs.Codes.{CountFits}
 use Rattle.nodes.specs.SheetFacts.{EarlierPolicy, NodeFacts, SheetFacts, FactsOf}
 
 module _ (bytes : List ℕ) (types : List TypedNode) (sheet : plain.SoundSheet bytes types) where
   module _ (n : ℕ) (below : n < nodeCount bytes) where
-    count-fits : (r : Rule ℕ) → nodeRule bytes n ≡ r → CountFits r
-    count-fits (opening hit) e = tt
-    count-fits (counting k) e = counting-fits bytes types sheet n below k e
-    count-fits (same a) e = tt
-    count-fits (both a b) e = tt
-    count-fits (either a b) e = tt
-    count-fits (copied a) e = tt
-    count-fits (until a b) e = tt
-    count-fits (then a b) e = tt
-    count-fits (timed k a b c) e = timed-fits bytes types sheet n below k a b c e
-    count-fits (filtered hit a) e = tt
-
     earlier : (i : ℕ) (mode : Mode) (bound : Bound) → i < n → typeAt types i ≡ Policy mode bound → EarlierPolicy types n i
     earlier i mode bound h e = record { before = h; mode = mode; policy = record { bound = bound; is = e } }
 
@@ -43,7 +28,7 @@ module _ (bytes : List ℕ) (types : List TypedNode) (sheet : plain.SoundSheet b
           type = node-type bytes types sheet n below (p .is);
           rule = node-rule bytes types sheet n below (p .is);
           parts = node-parts bytes types sheet n below (p .is) (EarlierPolicy types n) earlier;
-          count = count-fits (nodeRule bytes n) refl;
+          count = count-fits bytes types sheet n below;
         }
 
   sheet-facts : SheetFacts bytes types

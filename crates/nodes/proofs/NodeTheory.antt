@@ -15,7 +15,6 @@ use Rattle.policy.specs.Agree.{Agree}
 use Rattle.policy.specs.Lasting.{Lasting}
 use Rattle.policy.specs.Value.{partTrips, start, stepOf}
 use Rattle.policy.specs.Closed.{Closed, Sound, answer}
-use Rattle.policy.proofs.Parts.{positive-on}
 use Rattle.policy.proofs.Rules.{rule-trips, policy-lasting}
 use Rattle.policy.proofs.Congruent.{rule-congruent}
 use Rattle.policy.proofs.Steps.{steps-right, steps-trip, step-right}
@@ -26,7 +25,8 @@ use Rattle.lower.specs.Nodes.{tripsNode, nodeRule, Tables, partOf, ruleOn, reme
 use Rattle.nodes.specs.Limits.{Built}
 use Rattle.nodes.specs.Compiles.{PolicyNode, BuiltBefore}
 use Rattle.nodes.specs.SheetFacts.{EarlierPolicy, NodeFacts, SheetFacts}
-use Rattle.nodes.proofs.RuleParts.{all-map, all-onto, on-parts-compose, count-positive}
+use Rattle.nodes.proofs.RuleParts.{all-map, all-onto, count-positive}
+use Rattle.policy.proofs.Parts.{positive-on, on-parts-compose}
 use Rattle.nodes.proofs.PartRows.{rows-closed}
 
 -- Node i has its rows, at most 64 of them.

@@ -1,4 +1,4 @@
--- Laws of rules over their parts: what follows part by part, parts given in two steps, parts given by functions that agree on them.
+-- Laws of rules over their parts: what follows part by part, and parts given by functions that agree on them.
 -- Assumes nothing.
 use mathlib.Core.Path.{_≡_, refl}
 use Prim.Native.Nat.{ℕ}
@@ -24,20 +24,6 @@ module _ {P : Type 0} (Q R : P → Type 0) (each : (a : P) → Q a → R a) wher
 pub all-onto : {P X : Type 0} (Q : P → Type 0) (R : X → Type 0) (f : P → X) → ((a : P) → Q a → R (f a)) → (rule : Rule P) → AllParts Q rule
     → AllParts R (onParts f rule)
 all-onto Q R f each rule q = all-apply Q R f rule (all-map Q (λ a. Q a → R (f a)) (λ a p o. each a p) rule q) q
-
--- parts given in two steps
-module _ {P X Y : Type 0} (g : X → Y) (f : P → X) where
-  pub on-parts-compose : (rule : Rule P) → onParts g (onParts f rule) ≡ onParts (λ a. g (f a)) rule
-  on-parts-compose (opening hit) = refl
-  on-parts-compose (counting k) = refl
-  on-parts-compose (same a) = refl
-  on-parts-compose (both a b) = refl
-  on-parts-compose (either a b) = refl
-  on-parts-compose (copied a) = refl
-  on-parts-compose (until a b) = refl
-  on-parts-compose (then a b) = refl
-  on-parts-compose (timed k a b c) = refl
-  on-parts-compose (filtered hit a) = refl
 
 -- two functions that agree on the parts give one rule
 module _ {P X : Type 0} (f g : P → X) where

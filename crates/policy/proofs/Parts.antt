@@ -1,5 +1,6 @@
 -- Laws of what holds of every part of a rule, and induction over the parts that a policy's rule has.
 -- Assumes nothing.
+use mathlib.Core.Path.{_≡_, refl}
 use Prim.Native.Nat.{ℕ}
 use Rattle.policy.specs.Policy.{Policy, now, holds-first, count, not-p, and-p, or-p, eventually, always, before-, before+, after-, after+, fulfilling, ignoring}
 use Rattle.policy.specs.Typing.{watched, enforced, Typing, typed, untyped, typeOf}
@@ -72,3 +73,17 @@ policy-ind s Q h (after- a b) = h (after- a b) (policy-ind s Q h a, policy-ind s
 policy-ind s Q h (after+ a b) = h (after+ a b) (policy-ind s Q h a, policy-ind s Q h b)
 policy-ind s Q h (fulfilling k a b c) = h (fulfilling k a b c) (policy-ind s Q h a, policy-ind s Q h b, policy-ind s Q h c)
 policy-ind s Q h (ignoring f b) = h (ignoring f b) (policy-ind s Q h b)
+
+-- parts given in two steps
+module _ {P X Y : Type 0} (g : X → Y) (f : P → X) where
+  pub on-parts-compose : (rule : Rule P) → onParts g (onParts f rule) ≡ onParts (λ a. g (f a)) rule
+  on-parts-compose (opening hit) = refl
+  on-parts-compose (counting k) = refl
+  on-parts-compose (same a) = refl
+  on-parts-compose (both a b) = refl
+  on-parts-compose (either a b) = refl
+  on-parts-compose (copied a) = refl
+  on-parts-compose (until a b) = refl
+  on-parts-compose (then a b) = refl
+  on-parts-compose (timed k a b c) = refl
+  on-parts-compose (filtered hit a) = refl

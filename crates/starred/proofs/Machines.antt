@@ -30,7 +30,8 @@ use Rattle.rules.specs.Steps.{codeStepOf}
 use Rattle.rules.proofs.Fitting.{fit-sound, code-trips}
 use Rattle.starred.proofs.Tests.{not-true, both-true, allBelow, all-below}
 use Rattle.starred.proofs.Bisimulation.{gather, reach, alikeTest, alike-sound}
-use Rattle.starred.proofs.RuleTests.{partsPass, countFits, parts-pass, counted, all-both, on-parts-compose}
+use Rattle.starred.proofs.RuleTests.{partsPass, countFits, parts-pass, counted, all-both}
+use Rattle.policy.proofs.Parts.{on-parts-compose}
 use Rattle.starred.proofs.Tables.{entryFits, entry-fits}
 
 -- The machine of a rule: its states are the values reached, in the order met.

@@ -1,11 +1,11 @@
 -- Tests of a rule's parts and of its count, and laws of rules over their parts.
 -- Assumes nothing.
-use mathlib.Core.Path.{_≡_, refl}
+use mathlib.Core.Path.{_≡_}
 use mathlib.Core.Bool.{Bool, true, _&&_}
 use Prim.Native.Nat.{ℕ, _≤_}
 use lib.Dec.{leb}
 use borrow.Author.Tests.{leb-true}
-use Rattle.policy.specs.Rule.{Rule, opening, counting, same, both, either, copied, until, then, timed, filtered, onParts}
+use Rattle.policy.specs.Rule.{Rule, opening, counting, same, both, either, copied, until, then, timed, filtered}
 use Rattle.policy.specs.Parts.{AllParts}
 use Rattle.rules.specs.Codes.{CountFits}
 use Rattle.starred.proofs.Tests.{both-true}
@@ -82,17 +82,3 @@ module _ {P : Type 0} (Q R S : P → Type 0) (each : (a : P) → Q a → R a →
   all-both (then a b) q r = (each a (q .0) (r .0), each b (q .1) (r .1))
   all-both (timed k a b c) q r = (each a (q .0) (r .0), each b (q .1) (r .1), each c (q .2) (r .2))
   all-both (filtered hit a) q r = each a q r
-
--- parts given in two steps
-module _ {P X Y : Type 0} (g : X → Y) (f : P → X) where
-  pub on-parts-compose : (rule : Rule P) → onParts g (onParts f rule) ≡ onParts (λ a. g (f a)) rule
-  on-parts-compose (opening hit) = refl
-  on-parts-compose (counting k) = refl
-  on-parts-compose (same a) = refl
-  on-parts-compose (both a b) = refl
-  on-parts-compose (either a b) = refl
-  on-parts-compose (copied a) = refl
-  on-parts-compose (until a b) = refl
-  on-parts-compose (then a b) = refl
-  on-parts-compose (timed k a b c) = refl
-  on-parts-compose (filtered hit a) = refl

@@ -18,20 +18,8 @@ use borrow.Author.Needs.{needs}
 use Rattle.build.proofs.build_node.Statement.{statement}
 use Rattle.build.proofs.build_node.Tie as tie
 
-explore-requires : tie.Need-explore-requires
-explore-requires c κs = search needs
-
-enum-known-explored : tie.Need-enum-known-explored
-enum-known-explored c = search needs
-
 enum-told : tie.Need-enum-told
 enum-told c = search needs
-
-same-length : tie.Need-same-length
-same-length c = search needs
-
-same-length-2 : tie.Need-same-length-2
-same-length-2 c = search needs
 
 -- what the exploration found
 module _ (c : tie.After-explore) where
@@ -133,30 +121,6 @@ slice-aggregate-minimise-3 c = sym (length-take-le _ _ (in-other (c .before .bef
 minimise-requires : tie.Need-minimise-requires
 minimise-requires c κs = lent (c .before .before .before .before .before .before)
 
-enum-known-found : tie.Need-enum-known-found
-enum-known-found c = search needs
-
-enum-told-2 : tie.Need-enum-told-2
-enum-told-2 c = search needs
-
-same-length-3 : tie.Need-same-length-3
-same-length-3 c = search needs
-
-same-length-4 : tie.Need-same-length-4
-same-length-4 c = search needs
-
-same-length-5 : tie.Need-same-length-5
-same-length-5 c = search needs
-
-same-length-6 : tie.Need-same-length-6
-same-length-6 c = search needs
-
-same-length-7 : tie.Need-same-length-7
-same-length-7 c = search needs
-
-same-length-8 : tie.Need-same-length-8
-same-length-8 c = search needs
-
 -- what minimising found
 module _ (c : tie.After-minimise) where
   abbrev explored : tie.After-explored
@@ -183,24 +147,6 @@ returns-2 c =
     let m = c .before .before .before .before .before .before .before .before .before .before in
     (not-over m, over-states _ _ _ _ _ _ (found (explored m) .1) (marked m) _ (minimised-over _ _ _ _ _ _ _ (c .enum-told2 .given .1) (minimised m)))
 
-same-length-9 : tie.Need-same-length-9
-same-length-9 c = search needs
-
-same-length-10 : tie.Need-same-length-10
-same-length-10 c = search needs
-
-same-length-11 : tie.Need-same-length-11
-same-length-11 c = search needs
-
-same-length-12 : tie.Need-same-length-12
-same-length-12 c = search needs
-
-same-length-13 : tie.Need-same-length-13
-same-length-13 c = search needs
-
-same-length-14 : tie.Need-same-length-14
-same-length-14 c = search needs
-
 returns-3 : tie.Need-returns-3
 returns-3 c =
     let m = c .before .before .before .before .before .before .before .before .before .before .before in
@@ -210,11 +156,11 @@ pub build-node-spec : {M : Type 1} → statement M
 build-node-spec =
     tie.close
     (tie.spec
-    explore-requires
-    enum-known-explored
+    (λ c κs. search needs)
+    (λ c. search needs)
     enum-told
-    same-length
-    same-length-2
+    (λ c. search needs)
+    (λ c. search needs)
     returns
     mul-entries
     slice-reshare-prefix-minimise
@@ -224,19 +170,19 @@ build-node-spec =
     slice-relend-prefix-minimise-2
     slice-aggregate-minimise-3
     minimise-requires
-    enum-known-found
-    enum-told-2
-    same-length-3
-    same-length-4
-    same-length-5
-    same-length-6
-    same-length-7
-    same-length-8
+    (λ c. search needs)
+    (λ c. search needs)
+    (λ c. search needs)
+    (λ c. search needs)
+    (λ c. search needs)
+    (λ c. search needs)
+    (λ c. search needs)
+    (λ c. search needs)
     returns-2
-    same-length-9
-    same-length-10
-    same-length-11
-    same-length-12
-    same-length-13
-    same-length-14
+    (λ c. search needs)
+    (λ c. search needs)
+    (λ c. search needs)
+    (λ c. search needs)
+    (λ c. search needs)
+    (λ c. search needs)
     returns-3)

@@ -13,23 +13,8 @@ use borrow.Author.Needs.{needs}
 use Rattle.build.proofs.minimise.Statement.{statement}
 use Rattle.build.proofs.minimise.Tie as tie
 
-refine-requires : tie.Need-refine-requires
-refine-requires c κs = search needs
-
-enum-known-refined : tie.Need-enum-known-refined
-enum-known-refined c = search needs
-
 enum-told : tie.Need-enum-told
 enum-told c = search needs
-
-same-length : tie.Need-same-length
-same-length c = search needs
-
-same-length-2 : tie.Need-same-length-2
-same-length-2 c = search needs
-
-same-length-3 : tie.Need-same-length-3
-same-length-3 c = search needs
 
 -- what the refinement found
 module _ (c : tie.After-refine) where
@@ -66,18 +51,6 @@ quotient-requires c κs =
     (firsts (refined r)) (z .pre .acting) (z .pre .refinable .some) (z .pre .machine) (counted r .1) (counted r .0) (z .args .rows .now)
     (omega (arith, refined r .refine .kept, z .pre .refinable .room)) (z .pre .room)
 
-same-length-4 : tie.Need-same-length-4
-same-length-4 c = search needs
-
-same-length-5 : tie.Need-same-length-5
-same-length-5 c = search needs
-
-same-length-6 : tie.Need-same-length-6
-same-length-6 c = search needs
-
-same-length-7 : tie.Need-same-length-7
-same-length-7 c = search needs
-
 returns-2 : tie.Need-returns-2
 returns-2 c =
     let r = c .before .before .before .before .before .before .before in
@@ -90,16 +63,16 @@ pub minimise-spec : {M : Type 1} → statement M
 minimise-spec =
     tie.close
     (tie.spec
-    refine-requires
-    enum-known-refined
+    (λ c κs. search needs)
+    (λ c. search needs)
     enum-told
-    same-length
-    same-length-2
-    same-length-3
+    (λ c. search needs)
+    (λ c. search needs)
+    (λ c. search needs)
     returns
     quotient-requires
-    same-length-4
-    same-length-5
-    same-length-6
-    same-length-7
+    (λ c. search needs)
+    (λ c. search needs)
+    (λ c. search needs)
+    (λ c. search needs)
     returns-2)

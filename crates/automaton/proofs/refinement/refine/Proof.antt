@@ -21,9 +21,6 @@ Inv-loop next actions limit classes₀ other₀ firsts₀ count₀ classes other
 abbrev μ-loop : tie.MeasureT-loop
 μ-loop next actions limit classes₀ other₀ firsts₀ count₀ classes other firsts count = limit - count
 
-clear-requires : tie.Need-clear-requires Inv-loop μ-loop
-clear-requires c κs = search needs
-
 loop-holds : tie.Need-loop-holds Inv-loop μ-loop
 loop-holds c =
     let z = c .before .before .before .before .before .before .before .before in
@@ -97,9 +94,6 @@ module _ (c : tie.After-pass Inv-loop μ-loop) where
         rw (← all-states turn)
         (stable _ _ _ _ _ _ (still-refining turn) (c .pass .result) split firsts-found (c .pass .ensures) finer e (omega arith) h)
 
-enum-known-found : tie.Need-enum-known-found Inv-loop μ-loop
-enum-known-found c = search needs
-
 enum-told : tie.Need-enum-told Inv-loop μ-loop
 enum-told c = search needs
 
@@ -163,10 +157,10 @@ refine-spec =
     (tie.spec
     Inv-loop
     μ-loop
-    clear-requires
+    (λ c κs. search needs)
     loop-holds
     pass-requires
-    enum-known-found
+    (λ c. search needs)
     enum-told
     same-length
     same-length-2

@@ -17,12 +17,6 @@ Inv-actions next classes actions s t from-s from-t a₀ a =
 abbrev μ-actions : tie.MeasureT-actions
 μ-actions next classes actions s t from-s from-t a₀ a = actions - a
 
-class-of-requires : tie.Need-class-of-requires Inv-actions μ-actions
-class-of-requires c κs = search needs
-
-class-of-requires-2 : tie.Need-class-of-requires-2 Inv-actions μ-actions
-class-of-requires-2 c κs = search needs
-
 returns : tie.Need-returns Inv-actions μ-actions
 returns c e = c .if1 .taken (c .before .before .class-of .ensures ∙ e .class ∙ sym (c .before .class-of2 .ensures))
 
@@ -70,8 +64,8 @@ same-signature-spec =
     (tie.spec
     Inv-actions
     μ-actions
-    class-of-requires
-    class-of-requires-2
+    (λ c κs. search needs)
+    (λ c κs. search needs)
     returns
     mul-from-s
     mul-from-t

@@ -18,14 +18,8 @@ returns-2 c = short (λ a. let h = a .bytes in omega arith)
 returns-3 : tie.Need-returns-3
 returns-3 c = short (λ a. let h = a .numbers in omega arith)
 
-slice-relend-prefix-compile-in : tie.Need-slice-relend-prefix-compile-in
-slice-relend-prefix-compile-in c = search needs
-
 slice-aggregate-compile-in : tie.Need-slice-aggregate-compile-in
 slice-aggregate-compile-in c = sym (length-take-le 65536 (c .before .before .before .before .before .before .before .before .before .args .work .now) (omega arith))
-
-slice-relend-prefix-compile-in-2 : tie.Need-slice-relend-prefix-compile-in-2
-slice-relend-prefix-compile-in-2 c = search needs
 
 slice-aggregate-compile-in-2 : tie.Need-slice-aggregate-compile-in-2
 slice-aggregate-compile-in-2 c = sym (length-take-le 1024 (c .before .before .before .before .before .before .before .before .before .before .args .values .now) (omega arith))
@@ -34,15 +28,6 @@ compile-in-requires : tie.Need-compile-in-requires
 compile-in-requires c κs =
     let z = c .before .before .before .before .before .before .before .before .before .before in
     (omega arith, (length-take-le 65536 (z .args .work .now) (omega arith), length-take-le 1024 (z .args .values .now) (omega arith)))
-
-same-length : tie.Need-same-length
-same-length c = search needs
-
-same-length-2 : tie.Need-same-length-2
-same-length-2 c = search needs
-
-same-length-3 : tie.Need-same-length-3
-same-length-3 c = search needs
 
 returns-4 : tie.Need-returns-4
 returns-4 c =
@@ -58,12 +43,12 @@ compile-spec =
     returns
     returns-2
     returns-3
-    slice-relend-prefix-compile-in
+    (λ c. search needs)
     slice-aggregate-compile-in
-    slice-relend-prefix-compile-in-2
+    (λ c. search needs)
     slice-aggregate-compile-in-2
     compile-in-requires
-    same-length
-    same-length-2
-    same-length-3
+    (λ c. search needs)
+    (λ c. search needs)
+    (λ c. search needs)
     returns-4)

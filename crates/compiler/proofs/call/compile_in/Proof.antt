@@ -7,30 +7,12 @@ use borrow.Author.Needs.{needs}
 use Rattle.compiler.proofs.call.compile_in.Statement.{statement}
 use Rattle.compiler.proofs.call.compile_in.Tie as tie
 
-fill-requires : tie.Need-fill-requires
-fill-requires c κs = search needs
-
 compile-with-requires : tie.Need-compile-with-requires
 compile-with-requires c κs =
     let z = c .before .before .before .before .before .before .before .before .before .before .before in (
       record { value-low = omega arith; value-high = omega arith; row-low = omega arith; row-high = omega arith },
       (z .pre .0, (of-length 65536 255 (z .args .work .now) _ (z .pre .1 .0) (c .before .before .before .before .before .fill .ensures), (let e = z .pre .1 .1 in omega arith))),
     )
-
-fill-requires-2 : tie.Need-fill-requires-2
-fill-requires-2 c κs = search needs
-
-clear-numbers-requires : tie.Need-clear-numbers-requires
-clear-numbers-requires c κs = search needs
-
-same-length : tie.Need-same-length
-same-length c = search needs
-
-same-length-2 : tie.Need-same-length-2
-same-length-2 c = search needs
-
-same-length-3 : tie.Need-same-length-3
-same-length-3 c = search needs
 
 returns : tie.Need-returns
 returns c =
@@ -49,11 +31,11 @@ pub compile-in-spec : {M : Type 1} → statement M
 compile-in-spec =
     tie.close
     (tie.spec
-    fill-requires
+    (λ c κs. search needs)
     compile-with-requires
-    fill-requires-2
-    clear-numbers-requires
-    same-length
-    same-length-2
-    same-length-3
+    (λ c κs. search needs)
+    (λ c κs. search needs)
+    (λ c. search needs)
+    (λ c. search needs)
+    (λ c. search needs)
     returns)

@@ -109,26 +109,11 @@ module _ (c : tie.After-built3) where
   fits-out : (out : List ℕ) → 1032 ≤ length out → 8 + length (midOf ((nodes - 1) * 1024) ((nodes - 1) * 1024 + rows * actions - (nodes - 1) * 1024) (work (made moded))) ≤ length out
   fits-out = part-fits _ _ (sheet (told (at (made moded)))) _ _ _ (z .pre .0 .row-high) _ progress _ _ (type moded) _ _ (laid (at (made moded)) .1) (laid (at (made moded)) .2)
 
-judge-requires : tie.Need-judge-requires
-judge-requires c κs = search needs
-
-enum-known-verdict : tie.Need-enum-known-verdict
-enum-known-verdict c = search needs
-
 returns : tie.Need-returns
 returns c = is-faulty _ _ (c .before .before .before .before .judge .ensures .0) _ _ _ (c .before .verdict .given .1) _
 
 enum-told : tie.Need-enum-told
 enum-told c = search needs
-
-find-layout-requires : tie.Need-find-layout-requires
-find-layout-requires c κs = search needs
-
-enum-known-actions : tie.Need-enum-known-actions
-enum-known-actions c = search needs
-
-enum-told-2 : tie.Need-enum-told-2
-enum-told-2 c = search needs
 
 returns-2 : tie.Need-returns-2
 returns-2 c =
@@ -143,35 +128,11 @@ build-sheet-requires c κs =
 sub-type-at : tie.Need-sub-type-at
 sub-type-at c = let l = laid (c .before .before .before .before .before .before .before .before) in omega (arith, l .0 .some-node, l .2)
 
-type-at-requires : tie.Need-type-at-requires
-type-at-requires c κs = search needs
-
-enum-known-mode : tie.Need-enum-known-mode
-enum-known-mode c = search needs
-
-enum-told-3 : tie.Need-enum-told-3
-enum-told-3 c = search needs
-
-same-length : tie.Need-same-length
-same-length c = search needs
-
-same-length-2 : tie.Need-same-length-2
-same-length-2 c = search needs
-
 returns-3 : tie.Need-returns-3
 returns-3 c =
     let m = c .before .before .before .before .before .before .before in
     let a = at m in
     last-is-policy _ _ (sheet (told a)) (ap (λ (n : ℕ). typeAt (array (told a)) (n - 1)) (sym (laid a .2)) ∙ sym (c .before .before .type-at .ensures) ∙ c .enum-told3 .given .1)
-
-enum-known-built : tie.Need-enum-known-built
-enum-known-built c = search needs
-
-enum-known-built-2 : tie.Need-enum-known-built-2
-enum-known-built-2 c = search needs
-
-enum-known-built-3 : tie.Need-enum-known-built-3
-enum-known-built-3 c = search needs
 
 sub-from : tie.Need-sub-from
 sub-from c = let l = laid (at (made (moded (c .before)))) in omega (arith, l .0 .some-node, l .2)
@@ -185,12 +146,6 @@ mul-to c = omega (arith, small-size (c .before))
 add-to : tie.Need-add-to
 add-to c = let l = laid (at (made (moded (c .before)))) in omega (arith, l .0 .few-nodes, l .2, small-size (c .before))
 
-sub-write-table : tie.Need-sub-write-table
-sub-write-table c = search needs
-
-part-write-table-start : tie.Need-part-write-table-start
-part-write-table-start c = search needs
-
 part-write-table-end : tie.Need-part-write-table-end
 part-write-table-end c = inside-work (c .before .before)
 
@@ -200,32 +155,11 @@ write-table-requires c κs =
     let l = laid (at (made (moded q))) in
     (omega (arith, l .0 .few-actions, l .1), (omega (arith, few-rows q), fits-out q (z q .args .out .now) (z q .pre .1 .0)))
 
-same-length-3 : tie.Need-same-length-3
-same-length-3 c = search needs
-
-same-length-4 : tie.Need-same-length-4
-same-length-4 c = search needs
-
 returns-4 : tie.Need-returns-4
 returns-4 c = refuses (known (c .before .before .before .before .before .before .before .before .before .before .before) (c .before .built .given .1)) _
 
-same-length-5 : tie.Need-same-length-5
-same-length-5 c = search needs
-
-same-length-6 : tie.Need-same-length-6
-same-length-6 c = search needs
-
 returns-5 : tie.Need-returns-5
 returns-5 c = refuses (known (c .before .before .before .before .before .before .before .before .before .before .before) (c .before .built2 .given .1)) _
-
-same-length-7 : tie.Need-same-length-7
-same-length-7 c = search needs
-
-same-length-8 : tie.Need-same-length-8
-same-length-8 c = search needs
-
-same-length-9 : tie.Need-same-length-9
-same-length-9 c = search needs
 
 returns-6 : tie.Need-returns-6
 returns-6 c =
@@ -237,40 +171,40 @@ pub compile-with-spec : {M : Type 1} → statement M
 compile-with-spec =
     tie.close
     (tie.spec
-    judge-requires
-    enum-known-verdict
+    (λ c κs. search needs)
+    (λ c. search needs)
     returns
     enum-told
-    find-layout-requires
-    enum-known-actions
-    enum-told-2
+    (λ c κs. search needs)
+    (λ c. search needs)
+    (λ c. search needs)
     returns-2
     build-sheet-requires
     sub-type-at
-    type-at-requires
-    enum-known-mode
-    enum-told-3
-    same-length
-    same-length-2
+    (λ c κs. search needs)
+    (λ c. search needs)
+    (λ c. search needs)
+    (λ c. search needs)
+    (λ c. search needs)
     returns-3
-    enum-known-built
-    enum-known-built-2
-    enum-known-built-3
+    (λ c. search needs)
+    (λ c. search needs)
+    (λ c. search needs)
     sub-from
     mul-from
     mul-to
     add-to
-    sub-write-table
-    part-write-table-start
+    (λ c. search needs)
+    (λ c. search needs)
     part-write-table-end
     write-table-requires
-    same-length-3
-    same-length-4
+    (λ c. search needs)
+    (λ c. search needs)
     returns-4
-    same-length-5
-    same-length-6
+    (λ c. search needs)
+    (λ c. search needs)
     returns-5
-    same-length-7
-    same-length-8
-    same-length-9
+    (λ c. search needs)
+    (λ c. search needs)
+    (λ c. search needs)
     returns-6)

@@ -150,9 +150,6 @@ build-next-requires c κs =
     let z = start t in
     (prepared z, (limits z, (roomy t, (inside t, (laid t, (t .before .loop .last, t .before .loop .inv .2))))))
 
-enum-known-built : tie.Need-enum-known-built Inv-loop μ-loop
-enum-known-built c = search needs
-
 enum-told : tie.Need-enum-told Inv-loop μ-loop
 enum-told c = search needs
 
@@ -179,9 +176,6 @@ same-length-7 c = behind (at-told c) .6
 
 returns : tie.Need-returns Inv-loop μ-loop
 returns c = finishes-values _ _ _ _ _ _ _ (answered (at-told c)) (c .enum-told .given .1)
-
-enum-told-2 : tie.Need-enum-told-2 Inv-loop μ-loop
-enum-told-2 c = search needs
 
 same-length-8 : tie.Need-same-length-8 Inv-loop μ-loop
 same-length-8 c = behind (at-told2 c) .0
@@ -256,7 +250,7 @@ build-all-spec =
     mul-build-next
     add-build-next
     build-next-requires
-    enum-known-built
+    (λ c. search needs)
     enum-told
     same-length
     same-length-2
@@ -266,7 +260,7 @@ build-all-spec =
     same-length-6
     same-length-7
     returns
-    enum-told-2
+    (λ c. search needs)
     same-length-8
     same-length-9
     same-length-10

@@ -15,12 +15,6 @@ use borrow.Author.Needs.{needs}
 use Rattle.nodes.proofs.each.build_at.Statement.{statement}
 use Rattle.nodes.proofs.each.build_at.Tie as tie
 
-build-node-requires : tie.Need-build-node-requires
-build-node-requires c κs = search needs
-
-enum-known-built : tie.Need-enum-known-built
-enum-known-built c = search needs
-
 -- what building answered
 module _ (c : tie.After-build-node) where
   abbrev entry : tie.Start
@@ -70,23 +64,11 @@ module _ (c : tie.After-built) where
 mul-size : tie.Need-mul-size
 mul-size c = omega (arith, small (c .before))
 
-mul-from : tie.Need-mul-from
-mul-from c = search needs
-
-add-to : tie.Need-add-to
-add-to c = search needs
-
 slice-reshare-prefix-copy : tie.Need-slice-reshare-prefix-copy
 slice-reshare-prefix-copy c = kept-room (c .before)
 
 slice-aggregate-copy : tie.Need-slice-aggregate-copy
 slice-aggregate-copy c = sym (cut (c .before .before))
-
-sub-copy : tie.Need-sub-copy
-sub-copy c = search needs
-
-part-copy-start : tie.Need-part-copy-start
-part-copy-start c = search needs
 
 part-copy-end : tie.Need-part-copy-end
 part-copy-end c = fits (c .before .before)
@@ -99,79 +81,13 @@ copy-requires c κs =
 enum-told : tie.Need-enum-told
 enum-told c = search needs
 
-enum-told-2 : tie.Need-enum-told-2
-enum-told-2 c = search needs
-
-same-length : tie.Need-same-length
-same-length c = search needs
-
-same-length-2 : tie.Need-same-length-2
-same-length-2 c = search needs
-
-same-length-3 : tie.Need-same-length-3
-same-length-3 c = search needs
-
-same-length-4 : tie.Need-same-length-4
-same-length-4 c = search needs
-
-same-length-5 : tie.Need-same-length-5
-same-length-5 c = search needs
-
-same-length-6 : tie.Need-same-length-6
-same-length-6 c = search needs
-
-same-length-7 : tie.Need-same-length-7
-same-length-7 c = search needs
-
 returns : tie.Need-returns
 returns c =
     let b = c .before .before .before .before .before .before in
     rows-in-slot _ _ _ _ _ _ _ _ (answered (at b)) (count b) (b .built .given .1) (start b .pre .0 .explorable .actions-high) (start b .pre .0 .row-high) (room b) (start b .args .n) (start b .args .work .now) _ (fits b) (c .before .before .copy .ensures)
 
-same-length-8 : tie.Need-same-length-8
-same-length-8 c = search needs
-
-same-length-9 : tie.Need-same-length-9
-same-length-9 c = search needs
-
-same-length-10 : tie.Need-same-length-10
-same-length-10 c = search needs
-
-same-length-11 : tie.Need-same-length-11
-same-length-11 c = search needs
-
-same-length-12 : tie.Need-same-length-12
-same-length-12 c = search needs
-
-same-length-13 : tie.Need-same-length-13
-same-length-13 c = search needs
-
-same-length-14 : tie.Need-same-length-14
-same-length-14 c = search needs
-
 returns-2 : tie.Need-returns-2
 returns-2 c = built-over _ _ _ _ _ _ _ _ (answered (c .before .before .before .before .before .before .before .before .before .before .before .before .before .before)) (c .enum-told .given .1)
-
-same-length-15 : tie.Need-same-length-15
-same-length-15 c = search needs
-
-same-length-16 : tie.Need-same-length-16
-same-length-16 c = search needs
-
-same-length-17 : tie.Need-same-length-17
-same-length-17 c = search needs
-
-same-length-18 : tie.Need-same-length-18
-same-length-18 c = search needs
-
-same-length-19 : tie.Need-same-length-19
-same-length-19 c = search needs
-
-same-length-20 : tie.Need-same-length-20
-same-length-20 c = search needs
-
-same-length-21 : tie.Need-same-length-21
-same-length-21 c = search needs
 
 returns-3 : tie.Need-returns-3
 returns-3 c = built-many _ _ _ _ _ _ _ _ (answered (c .before .before .before .before .before .before .before .before .before .before .before .before .before .before)) (c .enum-told2 .given .1)
@@ -180,40 +96,40 @@ pub build-at-spec : {M : Type 1} → statement M
 build-at-spec =
     tie.close
     (tie.spec
-    build-node-requires
-    enum-known-built
+    (λ c κs. search needs)
+    (λ c. search needs)
     mul-size
-    mul-from
-    add-to
+    (λ c. search needs)
+    (λ c. search needs)
     slice-reshare-prefix-copy
     slice-aggregate-copy
-    sub-copy
-    part-copy-start
+    (λ c. search needs)
+    (λ c. search needs)
     part-copy-end
     copy-requires
     enum-told
-    enum-told-2
-    same-length
-    same-length-2
-    same-length-3
-    same-length-4
-    same-length-5
-    same-length-6
-    same-length-7
+    (λ c. search needs)
+    (λ c. search needs)
+    (λ c. search needs)
+    (λ c. search needs)
+    (λ c. search needs)
+    (λ c. search needs)
+    (λ c. search needs)
+    (λ c. search needs)
     returns
-    same-length-8
-    same-length-9
-    same-length-10
-    same-length-11
-    same-length-12
-    same-length-13
-    same-length-14
+    (λ c. search needs)
+    (λ c. search needs)
+    (λ c. search needs)
+    (λ c. search needs)
+    (λ c. search needs)
+    (λ c. search needs)
+    (λ c. search needs)
     returns-2
-    same-length-15
-    same-length-16
-    same-length-17
-    same-length-18
-    same-length-19
-    same-length-20
-    same-length-21
+    (λ c. search needs)
+    (λ c. search needs)
+    (λ c. search needs)
+    (λ c. search needs)
+    (λ c. search needs)
+    (λ c. search needs)
+    (λ c. search needs)
     returns-3)

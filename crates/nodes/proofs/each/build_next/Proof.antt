@@ -29,12 +29,6 @@ module _ (c : tie.After-rule-of) where
   begun : Begun (start .args .bytes .now) (typesOf (start .args .bytes .now) (start .args .types)) (start .args .value-limit) (start .args .row-limit) (start .args .n) (start .args .work .now)
   begun = start .pre .1 .1 .1 .1 .1
 
-rule-of-requires : tie.Need-rule-of-requires
-rule-of-requires c κs = search needs
-
-enum-known-rule : tie.Need-enum-known-rule
-enum-known-rule c = search needs
-
 enum-told : tie.Need-enum-told
 enum-told c = search needs
 
@@ -48,27 +42,6 @@ build-at-requires c κs =
     let r = c .before .before .before .before .before .before .before .before .before .before in
     buildable _ _ _ _ (prepared r) _ (inside r) _ _ (limits r) _ (begun r) _ (sym (r .rule-of .ensures) ∙ c .before .before .before .before .before .before .before .before .rule .given .1) _ _ _ _ _ _ (rooms r)
 
-same-length : tie.Need-same-length
-same-length c = search needs
-
-same-length-2 : tie.Need-same-length-2
-same-length-2 c = search needs
-
-same-length-3 : tie.Need-same-length-3
-same-length-3 c = search needs
-
-same-length-4 : tie.Need-same-length-4
-same-length-4 c = search needs
-
-same-length-5 : tie.Need-same-length-5
-same-length-5 c = search needs
-
-same-length-6 : tie.Need-same-length-6
-same-length-6 c = search needs
-
-same-length-7 : tie.Need-same-length-7
-same-length-7 c = search needs
-
 returns-2 : tie.Need-returns-2
 returns-2 c =
     let k = c .before .before .before .before .before .before .before .before .before .before .before .before .before .before in
@@ -81,16 +54,16 @@ pub build-next-spec : {M : Type 1} → statement M
 build-next-spec =
     tie.close
     (tie.spec
-    rule-of-requires
-    enum-known-rule
+    (λ c κs. search needs)
+    (λ c. search needs)
     enum-told
     returns
     build-at-requires
-    same-length
-    same-length-2
-    same-length-3
-    same-length-4
-    same-length-5
-    same-length-6
-    same-length-7
+    (λ c. search needs)
+    (λ c. search needs)
+    (λ c. search needs)
+    (λ c. search needs)
+    (λ c. search needs)
+    (λ c. search needs)
+    (λ c. search needs)
     returns-2)

@@ -22,20 +22,8 @@ module _ (c : tie.After-read-node) where
       ap (loweredRead (typeAt (start .args .types)) (λ i. getD (start .args .sets .now) i 0))
       (sym e ∙ c .read-node .ensures ∙ node-at (start .args .bytes .now) (start .args .n) _ (start .pre .from))
 
-read-node-requires : tie.Need-read-node-requires
-read-node-requires c κs = search needs
-
-enum-known-node : tie.Need-enum-known-node
-enum-known-node c = search needs
-
-lower-requires : tie.Need-lower-requires
-lower-requires c κs = search needs
-
 enum-told : tie.Need-enum-told
 enum-told c = search needs
-
-enum-told-2 : tie.Need-enum-told-2
-enum-told-2 c = search needs
 
 returns : tie.Need-returns
 returns c = c .lower .ensures ∙ lowered-is (c .before .before .before .before) (c .before .before .node .given .1)
@@ -50,11 +38,11 @@ pub rule-of-spec : {M : Type 1} → statement M
 rule-of-spec =
     tie.close
     (tie.spec
-    read-node-requires
-    enum-known-node
-    lower-requires
+    (λ c κs. search needs)
+    (λ c. search needs)
+    (λ c κs. search needs)
     enum-told
-    enum-told-2
+    (λ c. search needs)
     returns
     returns-2
     returns-3)

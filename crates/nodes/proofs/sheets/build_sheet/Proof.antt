@@ -28,50 +28,11 @@ module _ (c : tie.Start) where
   nodes-from : c .args .nodes-at ≡ nodesAt (c .args .sheet .now)
   nodes-from = c .pre .1 .1 .1 .1 .0
 
-room-for-sets-requires : tie.Need-room-for-sets-requires
-room-for-sets-requires c κs = search needs
-
-room-for-next-requires : tie.Need-room-for-next-requires
-room-for-next-requires c κs = search needs
-
-room-for-bytes-requires : tie.Need-room-for-bytes-requires
-room-for-bytes-requires c κs = search needs
-
-room-for-bytes-requires-2 : tie.Need-room-for-bytes-requires-2
-room-for-bytes-requires-2 c κs = search needs
-
-room-for-firsts-requires : tie.Need-room-for-firsts-requires
-room-for-firsts-requires c κs = search needs
-
-room-for-bytes-requires-3 : tie.Need-room-for-bytes-requires-3
-room-for-bytes-requires-3 c κs = search needs
-
-slice-aggregate-formula-sets : tie.Need-slice-aggregate-formula-sets
-slice-aggregate-formula-sets c = search needs
-
 formula-sets-requires : tie.Need-formula-sets-requires
 formula-sets-requires c κs =
     let z = c .before .before .before .before .before .before .before .before .before .before in
     settable _ _ (sheet z) _ _ _ _ (actions z) (nodes z) (from z) (nodes-from z) _
     (let e = c .before .before .before .before .before .before .room-for-sets .ensures in omega arith)
-
-slice-aggregate-build-all : tie.Need-slice-aggregate-build-all
-slice-aggregate-build-all c = search needs
-
-slice-aggregate-build-all-2 : tie.Need-slice-aggregate-build-all-2
-slice-aggregate-build-all-2 c = search needs
-
-slice-aggregate-build-all-3 : tie.Need-slice-aggregate-build-all-3
-slice-aggregate-build-all-3 c = search needs
-
-slice-aggregate-build-all-4 : tie.Need-slice-aggregate-build-all-4
-slice-aggregate-build-all-4 c = search needs
-
-slice-aggregate-build-all-5 : tie.Need-slice-aggregate-build-all-5
-slice-aggregate-build-all-5 c = search needs
-
-slice-aggregate-build-all-6 : tie.Need-slice-aggregate-build-all-6
-slice-aggregate-build-all-6 c = search needs
 
 build-all-requires : tie.Need-build-all-requires
 build-all-requires c κs =
@@ -94,34 +55,25 @@ build-all-requires c κs =
       ),
     )
 
-same-length : tie.Need-same-length
-same-length c = search needs
-
-same-length-2 : tie.Need-same-length-2
-same-length-2 c = search needs
-
-returns : tie.Need-returns
-returns c = search needs
-
 pub build-sheet-spec : {M : Type 1} → statement M
 build-sheet-spec =
     tie.close
     (tie.spec
-    room-for-sets-requires
-    room-for-next-requires
-    room-for-bytes-requires
-    room-for-bytes-requires-2
-    room-for-firsts-requires
-    room-for-bytes-requires-3
-    slice-aggregate-formula-sets
+    (λ c κs. search needs)
+    (λ c κs. search needs)
+    (λ c κs. search needs)
+    (λ c κs. search needs)
+    (λ c κs. search needs)
+    (λ c κs. search needs)
+    (λ c. search needs)
     formula-sets-requires
-    slice-aggregate-build-all
-    slice-aggregate-build-all-2
-    slice-aggregate-build-all-3
-    slice-aggregate-build-all-4
-    slice-aggregate-build-all-5
-    slice-aggregate-build-all-6
+    (λ c. search needs)
+    (λ c. search needs)
+    (λ c. search needs)
+    (λ c. search needs)
+    (λ c. search needs)
+    (λ c. search needs)
     build-all-requires
-    same-length
-    same-length-2
-    returns)
+    (λ c. search needs)
+    (λ c. search needs)
+    (λ c. search needs))

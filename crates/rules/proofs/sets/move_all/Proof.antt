@@ -59,14 +59,8 @@ returns c =
     let e = tripped (turn .before .loop .inv) (left turn) (trips c) in
     sym e
 
-enum-known-next : tie.Need-enum-known-next Inv-loop μ-loop
-enum-known-next c = search needs
-
 with-row-requires : tie.Need-with-row-requires Inv-loop μ-loop
 with-row-requires c κs = goes-below (c .before .before .before .before .before .before .before .pre .1) _ _ _ _ (goes (c .before))
-
-sub-rest : tie.Need-sub-rest Inv-loop μ-loop
-sub-rest c = search needs
 
 loop-less : tie.Need-loop-less Inv-loop μ-loop
 loop-less c =
@@ -93,9 +87,9 @@ move-all-spec =
     part-move-requires
     enum-told
     returns
-    enum-known-next
+    (λ c. search needs)
     with-row-requires
-    sub-rest
+    (λ c. search needs)
     loop-less
     loop-again
     returns-2)

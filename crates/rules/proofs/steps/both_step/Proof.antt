@@ -6,24 +6,6 @@ use Rattle.rules.proofs.Stepping.{both-trip, both-goes}
 use Rattle.rules.proofs.steps.both_step.Statement.{statement}
 use Rattle.rules.proofs.steps.both_step.Tie as tie
 
-place-after-requires : tie.Need-place-after-requires
-place-after-requires c κs = search needs
-
-cast-left : tie.Need-cast-left
-cast-left c = search needs
-
-place-after-requires-2 : tie.Need-place-after-requires-2
-place-after-requires-2 c κs = search needs
-
-cast-right : tie.Need-cast-right
-cast-right c = search needs
-
-mul-pair : tie.Need-mul-pair
-mul-pair c = search needs
-
-add-pair : tie.Need-add-pair
-add-pair c = search needs
-
 returns : tie.Need-returns
 returns c =
     rw (← c .before .before .place-after .ensures, ← c .before .place-after2 .ensures)
@@ -38,11 +20,11 @@ pub both-step-spec : {M : Type 1} → statement M
 both-step-spec =
     tie.close
     (tie.spec
-    place-after-requires
-    cast-left
-    place-after-requires-2
-    cast-right
-    mul-pair
-    add-pair
+    (λ c κs. search needs)
+    (λ c. search needs)
+    (λ c κs. search needs)
+    (λ c. search needs)
+    (λ c. search needs)
+    (λ c. search needs)
     returns
     returns-2)

@@ -5,18 +5,6 @@ use Rattle.rules.proofs.Stepping.{either-left, either-right, either-goe
 use Rattle.rules.proofs.steps.either_step.Statement.{statement}
 use Rattle.rules.proofs.steps.either_step.Tie as tie
 
-place-after-requires : tie.Need-place-after-requires
-place-after-requires c κs = search needs
-
-cast-left : tie.Need-cast-left
-cast-left c = search needs
-
-place-after-requires-2 : tie.Need-place-after-requires-2
-place-after-requires-2 c κs = search needs
-
-cast-right : tie.Need-cast-right
-cast-right c = search needs
-
 returns : tie.Need-returns
 returns c =
     rw (← c .before .before .place-after .ensures, ← c .before .place-after2 .ensures)
@@ -27,12 +15,6 @@ returns-2 c =
     rw (← c .before .before .before .place-after .ensures, ← c .before .before .place-after2 .ensures)
     (either-right (c .before .before .before .place-after .result) (c .before .before .place-after2 .result) (c .before .if1 .left) (c .if2 .taken))
 
-mul-t10 : tie.Need-mul-t10
-mul-t10 c = search needs
-
-add-t11 : tie.Need-add-t11
-add-t11 c = search needs
-
 returns-3 : tie.Need-returns-3
 returns-3 c =
     rw (← c .before .before .before .place-after .ensures, ← c .before .before .place-after2 .ensures)
@@ -42,12 +24,12 @@ pub either-step-spec : {M : Type 1} → statement M
 either-step-spec =
     tie.close
     (tie.spec
-    place-after-requires
-    cast-left
-    place-after-requires-2
-    cast-right
+    (λ c κs. search needs)
+    (λ c. search needs)
+    (λ c κs. search needs)
+    (λ c. search needs)
     returns
     returns-2
-    mul-t10
-    add-t11
+    (λ c. search needs)
+    (λ c. search needs)
     returns-3)

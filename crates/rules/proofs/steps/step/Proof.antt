@@ -22,29 +22,11 @@ stepped : (actions : ℕ) (work : List ℕ) (value action : ℕ) {m : Move ℕ} 
     → m ≡ codeStep actions work is value action → m ≡ codeStep actions work rule value action
 stepped actions work value action e h = h ∙ ap (λ (r : Rule). codeStep actions work r value action) (sym e)
 
-enum-known-rule : tie.Need-enum-known-rule
-enum-known-rule c = search needs
-
-opening-step-requires : tie.Need-opening-step-requires
-opening-step-requires c κs = search needs
-
-enum-known-rule-2 : tie.Need-enum-known-rule-2
-enum-known-rule-2 c = search needs
-
-counting-step-requires : tie.Need-counting-step-requires
-counting-step-requires c κs = search needs
-
-enum-known-rule-3 : tie.Need-enum-known-rule-3
-enum-known-rule-3 c = search needs
-
 row-move-requires : tie.Need-row-move-requires
 row-move-requires c κs =
     let start = c .before .before .before .before in
     let given = known (c .before .rule3 .given .1) (start .pre .0) in
     (given .room, given .parts, start .pre .1, start .pre .2, omega arith)
-
-enum-known-rule-4 : tie.Need-enum-known-rule-4
-enum-known-rule-4 c = search needs
 
 both-step-requires : tie.Need-both-step-requires
 both-step-requires c κs =
@@ -52,17 +34,11 @@ both-step-requires c κs =
     let given = known (c .before .rule4 .given .1) (start .pre .0) in
     (given, start .pre .1, start .pre .2)
 
-enum-known-rule-5 : tie.Need-enum-known-rule-5
-enum-known-rule-5 c = search needs
-
 either-step-requires : tie.Need-either-step-requires
 either-step-requires c κs =
     let start = c .before .before .before .before in
     let given = known (c .before .rule5 .given .1) (start .pre .0) in
     (given, start .pre .1, start .pre .2)
-
-enum-known-rule-6 : tie.Need-enum-known-rule-6
-enum-known-rule-6 c = search needs
 
 move-all-requires : tie.Need-move-all-requires
 move-all-requires c κs =
@@ -70,17 +46,11 @@ move-all-requires c κs =
     let given = known (c .before .rule6 .given .1) (start .pre .0) in
     (given .room, given .parts, start .pre .1, start .pre .2)
 
-enum-known-rule-7 : tie.Need-enum-known-rule-7
-enum-known-rule-7 c = search needs
-
 until-step-requires : tie.Need-until-step-requires
 until-step-requires c κs =
     let start = c .before .before .before .before in
     let given = known (c .before .rule7 .given .1) (start .pre .0) in
     (given, start .pre .1, start .pre .2)
-
-enum-known-rule-8 : tie.Need-enum-known-rule-8
-enum-known-rule-8 c = search needs
 
 then-step-requires : tie.Need-then-step-requires
 then-step-requires c κs =
@@ -88,17 +58,11 @@ then-step-requires c κs =
     let given = known (c .before .rule8 .given .1) (start .pre .0) in
     (given, start .pre .1, start .pre .2)
 
-enum-known-rule-9 : tie.Need-enum-known-rule-9
-enum-known-rule-9 c = search needs
-
 timed-step-requires : tie.Need-timed-step-requires
 timed-step-requires c κs =
     let start = c .before .before .before .before in
     let given = known (c .before .rule9 .given .1) (start .pre .0) in
     (given, start .pre .1, start .pre .2)
-
-enum-known-rule-10 : tie.Need-enum-known-rule-10
-enum-known-rule-10 c = search needs
 
 filtered-step-requires : tie.Need-filtered-step-requires
 filtered-step-requires c κs =
@@ -162,25 +126,25 @@ pub step-spec : {M : Type 1} → statement M
 step-spec =
     tie.close
     (tie.spec
-    enum-known-rule
-    opening-step-requires
-    enum-known-rule-2
-    counting-step-requires
-    enum-known-rule-3
+    (λ c. search needs)
+    (λ c κs. search needs)
+    (λ c. search needs)
+    (λ c κs. search needs)
+    (λ c. search needs)
     row-move-requires
-    enum-known-rule-4
+    (λ c. search needs)
     both-step-requires
-    enum-known-rule-5
+    (λ c. search needs)
     either-step-requires
-    enum-known-rule-6
+    (λ c. search needs)
     move-all-requires
-    enum-known-rule-7
+    (λ c. search needs)
     until-step-requires
-    enum-known-rule-8
+    (λ c. search needs)
     then-step-requires
-    enum-known-rule-9
+    (λ c. search needs)
     timed-step-requires
-    enum-known-rule-10
+    (λ c. search needs)
     filtered-step-requires
     returns
     returns-2

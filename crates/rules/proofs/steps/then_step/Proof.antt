@@ -8,23 +8,14 @@ use Rattle.rules.proofs.Stepping.{marked-code}
 use Rattle.rules.proofs.steps.then_step.Statement.{statement}
 use Rattle.rules.proofs.steps.then_step.Tie as tie
 
-marked-move-requires : tie.Need-marked-move-requires
-marked-move-requires c κs = search needs
-
 returns : tie.Need-returns
 returns c =
     let a = c .before .before .before .args in
     rw (ne-eqb _ 0 (c .before .if1 .taken), c .marked-move .ensures)
     (marked-code (partAt (a .actions) (a .work .now) (a .j) (a .value % 256) (a .action)))
 
-row-move-requires : tie.Need-row-move-requires
-row-move-requires c κs = search needs
-
 enum-told : tie.Need-enum-told
 enum-told c = search needs
-
-enum-known-q : tie.Need-enum-known-q
-enum-known-q c = search needs
 
 returns-2 : tie.Need-returns-2
 returns-2 c =
@@ -38,10 +29,10 @@ pub then-step-spec : {M : Type 1} → statement M
 then-step-spec =
     tie.close
     (tie.spec
-    marked-move-requires
+    (λ c κs. search needs)
     returns
-    row-move-requires
+    (λ c κs. search needs)
     enum-told
-    enum-known-q
+    (λ c. search needs)
     returns-2
     returns-3)

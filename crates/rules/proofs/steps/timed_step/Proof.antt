@@ -10,17 +10,11 @@ use Rattle.rules.proofs.Stepping.{kept-code, missed-code}
 use Rattle.rules.proofs.steps.timed_step.Statement.{statement}
 use Rattle.rules.proofs.steps.timed_step.Tie as tie
 
-marked-move-requires : tie.Need-marked-move-requires
-marked-move-requires c κs = search needs
-
 returns : tie.Need-returns
 returns c =
     let a = c .before .before .before .args in
     rw (c .before .if1 .taken, c .marked-move .ensures)
     (kept-code (a .k) (partAt (a .actions) (a .work .now) (a .j) (a .value % 256) (a .action)))
-
-marked-move-requires-2 : tie.Need-marked-move-requires-2
-marked-move-requires-2 c κs = search needs
 
 returns-2 : tie.Need-returns-2
 returns-2 c =
@@ -28,17 +22,8 @@ returns-2 c =
     rw (ne-eqb _ 0 (c .before .if2 .taken), ne-eqb _ 1 (c .before .before .if1 .left), c .marked-move2 .ensures)
     (missed-code (a .k) (partAt (a .actions) (a .work .now) (a .l) (a .value % 256) (a .action)))
 
-row-move-requires : tie.Need-row-move-requires
-row-move-requires c κs = search needs
-
 enum-told : tie.Need-enum-told
 enum-told c = search needs
-
-enum-known-q : tie.Need-enum-known-q
-enum-known-q c = search needs
-
-add-sofar : tie.Need-add-sofar
-add-sofar c = search needs
 
 mul-t21 : tie.Need-mul-t21
 mul-t21 c =
@@ -76,14 +61,14 @@ pub timed-step-spec : {M : Type 1} → statement M
 timed-step-spec =
     tie.close
     (tie.spec
-    marked-move-requires
+    (λ c κs. search needs)
     returns
-    marked-move-requires-2
+    (λ c κs. search needs)
     returns-2
-    row-move-requires
+    (λ c κs. search needs)
     enum-told
-    enum-known-q
-    add-sofar
+    (λ c. search needs)
+    (λ c. search needs)
     mul-t21
     add-t22
     returns-3

@@ -9,23 +9,8 @@ use Rattle.rules.proofs.steps.until_step.Tie as tie
 returns : tie.Need-returns
 returns c = rw (eq-eqb _ 65535 (c .if1 .taken))
 
-row-move-requires : tie.Need-row-move-requires
-row-move-requires c κs = search needs
-
 enum-told : tie.Need-enum-told
 enum-told c = search needs
-
-enum-known-r : tie.Need-enum-known-r
-enum-known-r c = search needs
-
-row-move-requires-2 : tie.Need-row-move-requires-2
-row-move-requires-2 c κs = search needs
-
-enum-told-2 : tie.Need-enum-told-2
-enum-told-2 c = search needs
-
-enum-known-q : tie.Need-enum-known-q
-enum-known-q c = search needs
 
 mul-t17 : tie.Need-mul-t17
 mul-t17 c =
@@ -63,12 +48,12 @@ until-step-spec =
     tie.close
     (tie.spec
     returns
-    row-move-requires
+    (λ c κs. search needs)
     enum-told
-    enum-known-r
-    row-move-requires-2
-    enum-told-2
-    enum-known-q
+    (λ c. search needs)
+    (λ c κs. search needs)
+    (λ c. search needs)
+    (λ c. search needs)
     mul-t17
     add-t18
     returns-2

@@ -65,10 +65,11 @@ module _ (c : tie.After-read-node Inv-loop μ-loop) where
 
 returns : tie.Need-returns Inv-loop μ-loop
 returns c =
-    let a = c .before .before .before in
-    (c .refused .ensures .0 ∙ ap faulty (c .before .read-fault .ensures)
-    ∙ read-faulty a _ (not-read (n a) (take (n a) (found-so-far a)) (a .read-node .result) (c .before .before .match .keys2)),
-    fault-counts _ (c .refused .ensures .1))
+    let a = c .before .before .before in (
+      c .refused .ensures .0 ∙ ap faulty (c .before .read-fault .ensures)
+          ∙ read-faulty a _ (not-read (n a) (take (n a) (found-so-far a)) (a .read-node .result) (c .before .before .match .keys2)),
+      fault-counts _ (c .refused .ensures .1),
+    )
 
 -- and was read, and its type looked for
 module _ (c : tie.After-type-node Inv-loop μ-loop) where
@@ -84,11 +85,12 @@ module _ (c : tie.After-type-node Inv-loop μ-loop) where
 returns-2 : tie.Need-returns-2 Inv-loop μ-loop
 returns-2 c =
     let b = c .before .before .before in
-    let a = at b in
-    (c .refused2 .ensures .0 ∙ ap faulty (c .before .type-fault .ensures)
-    ∙ fault-type (bytes a) (n a) (found-so-far a) (a .before .before .loop .inv .1) (a .before .before .loop .inv .2) (node b) (node-is b) (a .before .before .before .before .args .nodes) _ (a .before .loop-test .taken)
-    (ap (judgeType (n a) (take (n a) (found-so-far a))) (sym (b .type-node .ensures)) ∙ not-found (n a) (take (n a) (found-so-far a)) (b .type-node .result) (c .before .before .match2 .keys2)),
-    fault-counts _ (c .refused2 .ensures .1))
+    let a = at b in (
+      c .refused2 .ensures .0 ∙ ap faulty (c .before .type-fault .ensures)
+          ∙ fault-type (bytes a) (n a) (found-so-far a) (a .before .before .loop .inv .1) (a .before .before .loop .inv .2) (node b) (node-is b) (a .before .before .before .before .args .nodes) _ (a .before .loop-test .taken)
+          (ap (judgeType (n a) (take (n a) (found-so-far a))) (sym (b .type-node .ensures)) ∙ not-found (n a) (take (n a) (found-so-far a)) (b .type-node .result) (c .before .before .match2 .keys2)),
+      fault-counts _ (c .refused2 .ensures .1),
+    )
 
 loop-again : tie.Need-loop-again Inv-loop μ-loop
 loop-again c =

@@ -8,12 +8,6 @@ use Rattle.table.proofs.Formed.{area, whole-of, formed, misfit}
 use Rattle.table.proofs.format.check.Statement.{statement}
 use Rattle.table.proofs.format.check.Tie as tie
 
-header-of-requires : tie.Need-header-of-requires
-header-of-requires c κs = search needs
-
-enum-known-mode : tie.Need-enum-known-mode
-enum-known-mode c = search needs
-
 enum-told : tie.Need-enum-told
 enum-told c = search needs
 
@@ -33,18 +27,6 @@ add-if1 c = omega (arith, area _ _ _ _ (fields (c .before)))
 returns-2 : tie.Need-returns-2
 returns-2 c = λ h. let whole = whole-of _ _ _ _ (fields (c .before .before)) h in omega (arith, c .if1 .taken)
 
-sub-entries-fit : tie.Need-sub-entries-fit
-sub-entries-fit c = search needs
-
-part-entries-fit-start : tie.Need-part-entries-fit-start
-part-entries-fit-start c = search needs
-
-part-entries-fit-end : tie.Need-part-entries-fit-end
-part-entries-fit-end c = search needs
-
-entries-fit-requires : tie.Need-entries-fit-requires
-entries-fit-requires c κs = search needs
-
 returns-3 : tie.Need-returns-3
 returns-3 c = formed _ _ _ _ (fields (c .before .before .before .before .before)) (omega (arith, c .before .before .before .if1 .left)) (rw (c .if2 .taken, tail 8) at (c .before .entries-fit .ensures))
 
@@ -55,16 +37,16 @@ pub check-spec : {M : Type 1} → statement M
 check-spec =
     tie.close
     (tie.spec
-    header-of-requires
-    enum-known-mode
+    (λ c κs. search needs)
+    (λ c. search needs)
     enum-told
     returns
     mul-if1
     add-if1
     returns-2
-    sub-entries-fit
-    part-entries-fit-start
-    part-entries-fit-end
-    entries-fit-requires
+    (λ c. search needs)
+    (λ c. search needs)
+    (λ c. search needs)
+    (λ c κs. search needs)
     returns-3
     returns-4)

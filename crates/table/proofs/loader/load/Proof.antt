@@ -8,12 +8,6 @@ use borrow.Author.Needs.{needs}
 use Rattle.table.proofs.loader.load.Statement.{statement}
 use Rattle.table.proofs.loader.load.Tie as tie
 
-check-requires : tie.Need-check-requires
-check-requires c κs = search needs
-
-enum-known-mode : tie.Need-enum-known-mode
-enum-known-mode c = search needs
-
 enum-told : tie.Need-enum-told
 enum-told c = search needs
 
@@ -30,9 +24,6 @@ sub-canonical c = omega (arith, checked (c .before) .formed .header .long)
 part-canonical-start : tie.Need-part-canonical-start
 part-canonical-start c = omega (arith, checked (c .before) .formed .header .long)
 
-part-canonical-end : tie.Need-part-canonical-end
-part-canonical-end c = search needs
-
 canonical-requires : tie.Need-canonical-requires
 canonical-requires c κs = rw (tail 8) (rows-fit _ _ _ _ (checked (c .before .before)))
 
@@ -46,13 +37,13 @@ pub load-spec : {M : Type 1} → statement M
 load-spec =
     tie.close
     (tie.spec
-    check-requires
-    enum-known-mode
+    (λ c κs. search needs)
+    (λ c. search needs)
     enum-told
     returns
     sub-canonical
     part-canonical-start
-    part-canonical-end
+    (λ c. search needs)
     canonical-requires
     returns-2
     returns-3)

@@ -16,18 +16,6 @@ use Rattle.table.proofs.Apart.{all-apart, not-all-apart}
 use Rattle.table.proofs.rows.distinct.Statement.{statement}
 use Rattle.table.proofs.rows.distinct.Tie as tie
 
-room-for-entries-requires : tie.Need-room-for-entries-requires
-room-for-entries-requires c κs = search needs
-
-room-for-classes-requires : tie.Need-room-for-classes-requires
-room-for-classes-requires c κs = search needs
-
-room-for-classes-requires-2 : tie.Need-room-for-classes-requires-2
-room-for-classes-requires-2 c κs = search needs
-
-room-for-firsts-requires : tie.Need-room-for-firsts-requires
-room-for-firsts-requires c κs = search needs
-
 -- the entries are few
 module _ (c : tie.Start) where
   few : length (c .args .entries .now) ≤ 1024
@@ -67,20 +55,11 @@ array-share-prefix-next c = simp length-append (omega (arith, ap length (written
 slice-aggregate-refine : tie.Need-slice-aggregate-refine
 slice-aggregate-refine c = sym (ap length (front (c .before .before) _))
 
-array-borrow-prefix-classes : tie.Need-array-borrow-prefix-classes
-array-borrow-prefix-classes c = search needs
-
 slice-aggregate-refine-2 : tie.Need-slice-aggregate-refine-2
 slice-aggregate-refine-2 c = sym (length-take-le _ _ (omega arith))
 
-array-borrow-prefix-other : tie.Need-array-borrow-prefix-other
-array-borrow-prefix-other c = search needs
-
 slice-aggregate-refine-3 : tie.Need-slice-aggregate-refine-3
 slice-aggregate-refine-3 c = sym (length-take-le _ _ (omega arith))
-
-slice-aggregate-refine-4 : tie.Need-slice-aggregate-refine-4
-slice-aggregate-refine-4 c = search needs
 
 refine-requires : tie.Need-refine-requires
 refine-requires c κs =
@@ -104,9 +83,6 @@ module _ (c : tie.After-refine) where
   splits : SplitsTo (AlikeStates 255 (entry widened .args .actions) (entries widened)) (entry widened .args .rows) (entry widened .args .rows) (c .refine .result)
       (c .refine .last .1 .1 .1 .0) (c .refine .last .1 .1 .1 .1 .1 .0)
   splits = (rw (front widened, all-rows widened) at (c .refine .ensures)) 255 (entry widened .pre .machine)
-
-enum-known-found : tie.Need-enum-known-found
-enum-known-found c = search needs
 
 enum-told : tie.Need-enum-told
 enum-told c = search needs
@@ -144,22 +120,22 @@ pub distinct-spec : {M : Type 1} → statement M
 distinct-spec =
     tie.close
     (tie.spec
-    room-for-entries-requires
-    room-for-classes-requires
-    room-for-classes-requires-2
-    room-for-firsts-requires
+    (λ c κs. search needs)
+    (λ c κs. search needs)
+    (λ c κs. search needs)
+    (λ c κs. search needs)
     array-borrow-prefix-next
     slice-aggregate-widen
     widen-requires
     array-share-prefix-next
     slice-aggregate-refine
-    array-borrow-prefix-classes
+    (λ c. search needs)
     slice-aggregate-refine-2
-    array-borrow-prefix-other
+    (λ c. search needs)
     slice-aggregate-refine-3
-    slice-aggregate-refine-4
+    (λ c. search needs)
     refine-requires
-    enum-known-found
+    (λ c. search needs)
     enum-told
     returns
     returns-2

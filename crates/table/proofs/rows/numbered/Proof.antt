@@ -21,12 +21,6 @@ abbrev μ-loop : tie.MeasureT-loop
 loop-holds : tie.Need-loop-holds Inv-loop μ-loop
 loop-holds c = (search needs, scan-none _ _ _ (c .before .pre))
 
-shared-slice-read-byte : tie.Need-shared-slice-read-byte Inv-loop μ-loop
-shared-slice-read-byte c = search needs
-
-byte-requires : tie.Need-byte-requires Inv-loop μ-loop
-byte-requires c κs = search needs
-
 -- what is known once the entry is read
 module _ (c : tie.After-byte Inv-loop μ-loop) where
   read : c .byte .result ≡ getD (c .before .before .before .before .before .args .entries .now) (c .before .before .before .loop .k) 255
@@ -57,12 +51,6 @@ returns-2 c =
 
 add-met : tie.Need-add-met Inv-loop μ-loop
 add-met c = omega (arith, scanned (c .before .before .before .before) .few, c .before .before .before .before .before .before .before .before .before .pre .rows-high)
-
-add-k : tie.Need-add-k Inv-loop μ-loop
-add-k c = search needs
-
-loop-less : tie.Need-loop-less Inv-loop μ-loop
-loop-less c = search needs
 
 loop-again : tie.Need-loop-again Inv-loop μ-loop
 loop-again c =
@@ -102,14 +90,14 @@ numbered-spec =
     Inv-loop
     μ-loop
     loop-holds
-    shared-slice-read-byte
-    byte-requires
+    (λ c. search needs)
+    (λ c κs. search needs)
     returns
     mul-if4
     returns-2
     add-met
-    add-k
-    loop-less
+    (λ c. search needs)
+    (λ c. search needs)
     loop-again
     returns-3
     returns-4)

@@ -25,9 +25,6 @@ shared-slice-read-next c = omega arith
 cast-next : tie.Need-cast-next Inv-loop μ-loop
 cast-next c = omega (arith, c .shared-slice-known .given (c .before .before .loop .k))
 
-mul-next : tie.Need-mul-next Inv-loop μ-loop
-mul-next c = search needs
-
 slice-write-next : tie.Need-slice-write-next Inv-loop μ-loop
 slice-write-next c = omega arith
 
@@ -58,7 +55,7 @@ widen-spec =
     loop-holds
     shared-slice-read-next
     cast-next
-    mul-next
+    (λ c. search needs)
     slice-write-next
     add-k
     loop-less
