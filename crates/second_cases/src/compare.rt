@@ -1,0 +1,151 @@
+// One sheet, given to both.
+use crate::Answer;
+use crate::Expected;
+use crate::first;
+use crate::report::KINDS;
+use crate::report::REFUSED;
+use crate::report::SHEETS;
+use crate::report::TABLES;
+use crate::report::add;
+use crate::report::differ;
+use crate::tables;
+use naive::Areas;
+use naive::Found;
+ghost use mathlib.Core.Path.{_≡_};
+ghost use lib.ListN.{length};
+
+// Room for a table and more. Each byte is 170.
+pub fn room_for_table() -> [u8; 1100]
+    ensures { λ r. ⌜ length r ≡ 1100 ⌝ }
+{
+    [170u8; 1100]
+}
+
+fn room_for_truths() -> [u8; 131072]
+    ensures { λ r. ⌜ length r ≡ 131072 ⌝ }
+{
+    [0u8; 131072]
+}
+
+fn room_for_types() -> [usize; 64]
+    ensures { λ r. ⌜ length r ≡ 64 ⌝ }
+{
+    [0usize; 64]
+}
+
+fn room_for_letters() -> [u8; 160]
+    ensures { λ r. ⌜ length r ≡ 160 ⌝ }
+{
+    [0u8; 160]
+}
+
+fn room_for_met() -> [usize; 65]
+    ensures { λ r. ⌜ length r ≡ 65 ⌝ }
+{
+    [0usize; 65]
+}
+
+fn room_for_entries() -> [u8; 1024]
+    ensures { λ r. ⌜ length r ≡ 1024 ⌝ }
+{
+    [0u8; 1024]
+}
+
+// A number of a list, or 0 past its end.
+fn item(list: &[usize], i: usize) -> usize {
+    if i < list.len() { list[i] } else { 0 }
+}
+
+// Counts the nodes of a sheet by kind.
+fn count_kinds(bytes: &[u8], laid: Areas, counts: &mut [u64]) {
+    let nodes = laid.nodes;
+    let mut n = 0;
+    while n < nodes {
+        let node = naive::node_at(bytes, laid.nodes_at, n);
+        add(counts, KINDS + node.kind % 32, 1);
+        n += 1;
+    }
+}
+
+// A table: its header, what stands behind it, the loader, the verdicts and the rows.
+fn compare_table(
+    out: &[u8],
+    answer: Answer,
+    expected: Expected,
+    truths: &[u8],
+    n: usize,
+    mode: usize,
+    counts: &mut [u64],
+) {
+    let size = 8 + naive::times(answer.actions, answer.rows);
+    add(counts, TABLES, 1);
+    differ(counts, answer.mode != mode);
+    differ(counts, (0 < expected.rows) & (expected.rows != answer.rows));
+    differ(counts, !tables::untouched(out, size));
+    if size <= out.len() {
+        let bytes = &out[..size];
+        differ(counts, !tables::accepted(bytes, answer));
+        tables::compare_verdicts(bytes, answer, truths, n, counts);
+        let mut met = room_for_met();
+        let mut entries = room_for_entries();
+        let found = naive::rows_of(truths, n, mode, answer.actions, &mut met, &mut entries);
+        tables::compare_rows(bytes, answer, found.rows, found.whole, &entries, counts);
+    }
+}
+
+// Whether more than 64 rows are found for node n.
+fn over(truths: &[u8], n: usize, mode: usize, actions: usize) -> bool {
+    if mode == 0 {
+        return false;
+    }
+    let mut met = room_for_met();
+    let mut entries = room_for_entries();
+    let found: Found = naive::rows_of(truths, n, mode, actions, &mut met, &mut entries);
+    64 < found.rows
+}
+
+// A sheet that passes checks 1 to 7: the refusal that is known, or one that the rows found bear out, or the table.
+fn compare_sound(
+    bytes: &[u8],
+    out: &[u8],
+    answer: Answer,
+    expected: Expected,
+    modes: &[usize],
+    counts: &mut [u64],
+) {
+    if 0 < expected.number {
+        differ(counts, (answer.number != expected.number) | (answer.spot != expected.spot));
+        return;
+    }
+    let laid = naive::areas(bytes);
+    let mut truths = room_for_truths();
+    let mut letters = room_for_letters();
+    let mut kept = room_for_letters();
+    naive::evaluate(bytes, laid, &mut truths, &mut letters, &mut kept);
+    if 0 < answer.number {
+        let spot = answer.spot;
+        differ(counts, !over(&truths, spot, item(modes, spot), laid.actions));
+        return;
+    }
+    count_kinds(bytes, laid, counts);
+    if 0 < laid.nodes {
+        let n = laid.nodes - 1;
+        compare_table(out, answer, expected, &truths, n, item(modes, n), counts);
+    }
+}
+
+// Gives a sheet to both and compares. The compiler's table is written to `out`, each of whose bytes is 170.
+pub fn compare(bytes: &[u8], expected: Expected, out: &mut [u8], counts: &mut [u64]) {
+    let answer = first::answer(bytes, out);
+    let mut modes = room_for_types();
+    let mut bounds = room_for_types();
+    let finding = naive::judge(bytes, &mut modes, &mut bounds);
+    add(counts, SHEETS, 1);
+    add(counts, REFUSED + answer.number % 16, 1);
+    differ(counts, ((0 < expected.number) & (expected.number < 8)) & (expected.number != finding.number));
+    if 0 < finding.number {
+        differ(counts, (answer.number != finding.number) | (answer.spot != finding.spot));
+        return;
+    }
+    compare_sound(bytes, out, answer, expected, &modes, counts);
+}
