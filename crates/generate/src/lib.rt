@@ -1,20 +1,20 @@
 // Generated rule sheets, written into lent bytes: sound ones, damaged ones, and ones whose count of values and rows is known by arithmetic.
-mod compose;
-mod damage;
-mod draw;
-mod known;
+mod layout;
+mod damages;
+mod draws;
+mod arithmetic;
 mod nodes;
 mod sheets;
 
-pub use compose::compose;
-pub use damage::damage;
-pub use draw::draw;
-pub use known::conjunction;
-pub use known::fulfilled;
-pub use known::history;
-pub use known::product;
-pub use known::tower;
-pub use known::two_counts;
+pub use layout::compose;
+pub use damages::damage;
+pub use draws::draw;
+pub use arithmetic::conjunction;
+pub use arithmetic::fulfilled;
+pub use arithmetic::history;
+pub use arithmetic::product;
+pub use arithmetic::tower;
+pub use arithmetic::two_counts;
 pub use sheets::draw_sheet;
 
 // A sheet whose outcome is known: its length in the lent bytes, its refusal (8 or 9, or 0) with the spot, and its rows.

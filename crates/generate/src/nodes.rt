@@ -1,5 +1,5 @@
 // Drawing the nodes of a sheet.
-use crate::draw::draw;
+use crate::draws::draw;
 use naive::Fields;
 
 // One of the twenty kinds.
@@ -62,10 +62,9 @@ pub fn draw_any(seed: usize, place: usize, wanted: usize, n: usize, bounds: &[us
 
 // A node n that fits the types before it: the first that fits of many drawn, else Count 2.
 pub fn draw_typed(seed: usize, wanted: usize, n: usize, modes: &[usize], bounds: &[usize]) -> Fields {
-    let start = n % 65536 * 4096;
     let mut i = 0;
     while i < 400 {
-        let node = draw_any(seed, start + 8 * i, wanted, n, bounds);
+        let node = draw_any(seed, n % 65536 * 4096 + i % 512 * 8, wanted, n, bounds);
         let found = naive::type_of(node, n, modes, bounds);
         if found.number == 0 {
             return node;

@@ -1,8 +1,8 @@
 // Drawing whole sheets.
-use crate::compose::Plan;
-use crate::compose::write_header;
-use crate::compose::write_node;
-use crate::draw::draw;
+use crate::layout::Plan;
+use crate::layout::write_header;
+use crate::layout::write_node;
+use crate::draws::draw;
 use crate::nodes::draw_any;
 use crate::nodes::draw_typed;
 use naive::Fields;
@@ -53,12 +53,16 @@ fn draw_set(seed: usize, action: usize) -> usize {
     low
 }
 
+// Writes entry i of the action list.
+fn write_action(seed: usize, from: usize, i: usize, out: &mut [u8]) {
+    put_number(out, from % 65536 + 2 * (i % 65536), draw_set(seed, i));
+}
+
 // Writes the action list.
 fn write_actions(seed: usize, from: usize, actions: usize, out: &mut [u8]) {
-    let start = from % 65536;
     let mut i = 0;
     while i < actions {
-        put_number(out, start + 2 * (i % 65536), draw_set(seed, i));
+        write_action(seed, from, i, out);
         i += 1;
     }
 }

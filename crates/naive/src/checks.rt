@@ -42,7 +42,7 @@ fn first_fault(bytes: &[u8]) -> usize
 }
 
 // Where the areas of a sheet are.
-pub fn areas(bytes: &[u8]) -> Areas
+pub fn find_areas(bytes: &[u8]) -> Areas
     ensures { λ r. ⌜ r .number < 4 ⌝ }
 {
     Areas {
@@ -81,37 +81,36 @@ fn check_node(bytes: &[u8], nodes_at: usize, n: usize, modes: &mut [usize], boun
     found.number
 }
 
+// That the last node is a policy, or refusal 6.
+fn check_last(nodes: usize, modes: &[usize]) -> Finding {
+    if nodes == 0 {
+        return Finding { number: 6, spot: 0 };
+    }
+    let spot = nodes - 1;
+    if spot < modes.len() {
+        if 0 < modes[spot] {
+            return Finding { number: 0, spot: 0 };
+        }
+    }
+    Finding { number: 6, spot }
+}
+
 // Checks 4 to 7, node by node, and then that the last node is a policy.
 fn check_nodes(bytes: &[u8], nodes: usize, nodes_at: usize, modes: &mut [usize], bounds: &mut [usize]) -> Finding {
-    let mut mode = 0;
     let mut n = 0;
     while n < nodes {
         let number = check_node(bytes, nodes_at, n, modes, bounds);
         if 0 < number {
             return Finding { number, spot: n };
         }
-        if n < modes.len() {
-            mode = modes[n];
-        }
         n += 1;
     }
-    if mode == 0 {
-        return Finding {
-            number: 6,
-            spot: last_of(nodes),
-        };
-    }
-    Finding { number: 0, spot: 0 }
-}
-
-// The number of the last of so many nodes.
-fn last_of(nodes: usize) -> usize {
-    if 0 < nodes { nodes - 1 } else { 0 }
+    check_last(nodes, modes)
 }
 
 // The first refusal of 1 to 7. The modes and bounds of the nodes that pass are kept in the lent lists, of 64 numbers each.
 pub fn judge(bytes: &[u8], modes: &mut [usize], bounds: &mut [usize]) -> Finding {
-    let found = areas(bytes);
+    let found = find_areas(bytes);
     if 0 < found.number {
         return Finding {
             number: found.number,

@@ -11,7 +11,7 @@ pub use bytes::at;
 pub use bytes::number_at;
 pub use bytes::put;
 pub use bytes::put_number;
-pub use checks::areas;
+pub use checks::find_areas;
 pub use checks::judge;
 pub use checks::node_at;
 pub use meanings::evaluate;

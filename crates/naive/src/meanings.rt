@@ -47,7 +47,7 @@ fn satisfies(truths: &[u8], actions: usize, n: usize, sequence: &[u8]) -> bool {
 fn first_fulfilment(truths: &[u8], actions: usize, n: usize, sequence: &[u8]) -> usize {
     let mut l = 0;
     while l <= sequence.len() {
-        if satisfies(truths, actions, n, &sequence[..l]) {
+        if satisfies(truths, actions, n, &sequence[0..l]) {
             return l;
         }
         l += 1;
@@ -91,7 +91,7 @@ fn first_action(truths: &[u8], n: usize, sequence: &[u8], empty: bool) -> bool {
 fn before(truths: &[u8], actions: usize, a: usize, b: usize, sequence: &[u8]) -> bool {
     let l = first_fulfilment(truths, actions, a, sequence);
     if l <= sequence.len() {
-        return satisfies(truths, actions, b, &sequence[..l]);
+        return satisfies(truths, actions, b, &sequence[0..l]);
     }
     satisfies(truths, actions, b, sequence)
 }
@@ -120,16 +120,24 @@ fn fulfilling(truths: &[u8], actions: usize, node: Fields, sequence: &[u8]) -> b
     true
 }
 
+// Keeps an action that does not satisfy the formula n behind the `count` kept before, and answers how many are kept now.
+fn keep_unless(truths: &[u8], n: usize, action: usize, count: usize, kept: &mut [u8]) -> usize {
+    if truth(truths, n, action) {
+        return count;
+    }
+    if kept.len() <= count {
+        return count;
+    }
+    put(kept, count, action);
+    count + 1
+}
+
 // Writes the actions that do not satisfy the formula n to the front of `kept`, and answers how many.
 fn leave_out(truths: &[u8], n: usize, sequence: &[u8], kept: &mut [u8]) -> usize {
     let mut count = 0;
     let mut i = 0;
     while i < sequence.len() {
-        let action = at(sequence, i);
-        if !truth(truths, n, action) {
-            put(kept, count, action);
-            count += 1;
-        }
+        count = keep_unless(truths, n, at(sequence, i), count, kept);
         i += 1;
     }
     count
@@ -139,7 +147,7 @@ fn leave_out(truths: &[u8], n: usize, sequence: &[u8], kept: &mut [u8]) -> usize
 fn ignoring(truths: &[u8], actions: usize, a: usize, b: usize, sequence: &[u8], kept: &mut [u8]) -> bool {
     let count = leave_out(truths, a, sequence, kept);
     if count <= kept.len() {
-        return satisfies(truths, actions, b, &kept[..count]);
+        return satisfies(truths, actions, b, &kept[0..count]);
     }
     false
 }
@@ -203,14 +211,18 @@ fn formula(truths: &[u8], node: Fields, action: usize, set: usize) -> bool {
     }
 }
 
+// The truth of a formula node for one action.
+fn evaluate_action(bytes: &[u8], actions_at: usize, action: usize, node: Fields, n: usize, truths: &mut [u8]) {
+    let set = number_at(bytes, actions_at % 65536 + 2 * (action % 65536));
+    let holds = formula(truths, node, action, set);
+    keep(truths, n, action, holds);
+}
+
 // The truths of a formula node: one for each action.
 fn evaluate_formula(bytes: &[u8], actions_at: usize, actions: usize, node: Fields, n: usize, truths: &mut [u8]) {
-    let from = actions_at % 65536;
     let mut action = 0;
     while action < actions {
-        let set = number_at(bytes, from + 2 * (action % 65536));
-        let holds = formula(truths, node, action, set);
-        keep(truths, n, action, holds);
+        evaluate_action(bytes, actions_at, action, node, n, truths);
         action += 1;
     }
 }
@@ -219,7 +231,7 @@ fn evaluate_formula(bytes: &[u8], actions_at: usize, actions: usize, node: Field
 fn evaluate_at(actions: usize, node: Fields, n: usize, s: usize, truths: &mut [u8], letters: &mut [u8], kept: &mut [u8]) {
     let length = spell(s, actions, letters);
     if length <= letters.len() {
-        let holds = meaning(truths, actions, node, &letters[..length], kept);
+        let holds = meaning(truths, actions, node, &letters[0..length], kept);
         keep(truths, n, s, holds);
     }
 }

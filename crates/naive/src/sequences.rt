@@ -58,10 +58,10 @@ pub fn longest(actions: usize) -> usize
 }
 
 // How many sequences have at most so many actions.
-pub fn numbers_to(length: usize, actions: usize) -> usize {
+pub fn numbers_to(most: usize, actions: usize) -> usize {
     let mut count = 1;
     let mut l = 0;
-    while l < length {
+    while l < most {
         count = times(actions, count) + 1;
         l += 1;
     }
@@ -70,26 +70,26 @@ pub fn numbers_to(length: usize, actions: usize) -> usize {
 
 // The number of actions in a sequence.
 fn length_of(s: usize, actions: usize) -> usize {
-    let mut length = 0;
+    let mut count = 0;
     let mut rest = s;
     while 0 < rest {
         rest = parent(rest, actions);
-        length += 1;
+        count += 1;
     }
-    length
+    count
 }
 
-// Writes the actions of a sequence to the front of `letters`, and answers how many there are, at most as many as fit.
+// Writes the actions of a sequence to the front of `letters`, as far as they fit, and answers how many there are.
 pub fn spell(s: usize, actions: usize, letters: &mut [u8]) -> usize {
-    let length = length_of(s, actions);
+    let count = length_of(s, actions);
     let mut rest = s;
-    let mut i = length;
+    let mut i = count;
     while 0 < i {
         i -= 1;
         put(letters, i, last(rest, actions));
         rest = parent(rest, actions);
     }
-    length
+    count
 }
 
 // The number of a sequence that is spelled out.

@@ -117,7 +117,7 @@ fn compare_sound(
         differ(counts, (answer.number != expected.number) | (answer.spot != expected.spot));
         return;
     }
-    let laid = naive::areas(bytes);
+    let laid = naive::find_areas(bytes);
     let mut truths = room_for_truths();
     let mut letters = room_for_letters();
     let mut kept = room_for_letters();

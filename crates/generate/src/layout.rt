@@ -31,12 +31,16 @@ pub fn write_node(node: Fields, from: usize, out: &mut [u8]) {
     put(out, start + 4, node.c);
 }
 
+// Copies byte i to its place behind `start`.
+fn copy_byte(from: &[u8], i: usize, to: &mut [u8], start: usize) {
+    put(to, start % 65536 + i % 65536, naive::at(from, i));
+}
+
 // Copies bytes to a place.
 fn copy_to(from: &[u8], to: &mut [u8], start: usize) {
-    let first = start % 65536;
     let mut i = 0;
     while i < from.len() {
-        put(to, first + i % 65536, naive::at(from, i));
+        copy_byte(from, i, to, start);
         i += 1;
     }
 }

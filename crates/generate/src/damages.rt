@@ -1,5 +1,5 @@
 // Damaging a sound sheet.
-use crate::draw::draw;
+use crate::draws::draw;
 use naive::put;
 use naive::put_number;
 

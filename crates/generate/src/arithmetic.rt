@@ -1,6 +1,7 @@
 // Sheets whose remembered values and rows are known by arithmetic, so that refusals 8 and 9 are known too.
 use crate::Known;
-use crate::compose::compose;
+use crate::layout::compose;
+ghost use Prim.Native.Nat.{_≤_};
 
 // Two actions, with proposition 0 and with proposition 1.
 const TWO: [u8; 4] = [1, 0, 2, 0];
@@ -14,7 +15,7 @@ fn small(k: usize) -> u8 {
 }
 
 // What is known of a sheet whose node `spot` is the only large one and the policy.
-fn known(length: usize, spot: usize, values: usize, rows: usize) -> Known {
+fn outcome(length: usize, spot: usize, values: usize, rows: usize) -> Known {
     if 1024 < values {
         return Known {
             length,
@@ -44,7 +45,7 @@ pub fn two_counts(i: usize, j: usize, out: &mut [u8]) -> Known {
     let nodes = [12, small(i), 0, 0, 0, 12, small(j), 0, 0, 0, 20, 0, 0, 1, 0];
     let length = compose(&TWO, &nodes, out);
     let all = i % 256 + j % 256;
-    known(length, 2, all, all)
+    outcome(length, 2, all, all)
 }
 
 // Fulfilling i (Count i) (Not Count j) (Not Count j): i values before b begins and j in it, all of them rows. Count 1 behind it is the policy.
@@ -54,11 +55,11 @@ pub fn fulfilled(i: usize, j: usize, out: &mut [u8]) -> Known {
     ];
     let length = compose(&TWO, &nodes, out);
     let all = i % 256 + j % 256;
-    let found = known(length, 3, all, all);
+    let found = outcome(length, 3, all, all);
     if 0 < found.number {
         return found;
     }
-    known(length, 4, 1, 1)
+    outcome(length, 4, 1, 1)
 }
 
 // Or (Ignoring p0: Count i) (Ignoring p1: Count j): a pair of counts that both stay below, i * j values, all of them rows.
@@ -69,7 +70,7 @@ pub fn product(i: usize, j: usize, out: &mut [u8]) -> Known {
     ];
     let length = compose(&TWO, &nodes, out);
     let all = naive::times(i, j);
-    known(length, 6, all, all)
+    outcome(length, 6, all, all)
 }
 
 // And of the same: a pair of counts, each of which may have tripped but not both, (i + 1) * (j + 1) - 1 values, all of them rows.
@@ -80,7 +81,7 @@ pub fn conjunction(i: usize, j: usize, out: &mut [u8]) -> Known {
     ];
     let length = compose(&THREE, &nodes, out);
     let all = one_less(naive::times(i % 256 + 1, j % 256 + 1));
-    known(length, 6, all, all)
+    outcome(length, 6, all, all)
 }
 
 // The number before, or 0.
@@ -89,7 +90,9 @@ fn one_less(k: usize) -> usize {
 }
 
 // 2 to the k + 1, for small k.
-fn power(k: usize) -> usize {
+fn power(k: usize) -> usize
+    ensures { λ r. ⌜ r ≤ 2048 ⌝ }
+{
     match k {
         0 => 2,
         1 => 4,
@@ -114,7 +117,7 @@ pub fn history(k: usize, out: &mut [u8]) -> Known {
     ];
     let length = compose(&THREE, &nodes, out);
     let rows = power(k);
-    known(length, 7, rows + k % 256 + 2, rows)
+    outcome(length, 7, rows + k % 256 + 2, rows)
 }
 
 // Count k, and eleven nodes more, each After- of the one before twice. The bound of the last is 2,048 * k. Node n has k times 2 to the n rows: what is
