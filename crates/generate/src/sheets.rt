@@ -4,6 +4,7 @@ use crate::layout::write_header;
 use crate::layout::write_node;
 use crate::draws::draw;
 use crate::nodes::draw_any;
+use crate::nodes::draw_kind;
 use crate::nodes::draw_typed;
 use naive::Fields;
 use naive::put;
@@ -67,7 +68,7 @@ fn write_actions(seed: usize, from: usize, actions: usize, out: &mut [u8]) {
     }
 }
 
-// The kind wanted of node n: propositions and policies of both types first, a given kind last, else any.
+// The kind wanted of node n: propositions and policies of both types first, a given kind last, else a drawn one, or any (0).
 fn wanted_kind(seed: usize, n: usize, nodes: usize) -> usize {
     if nodes <= n % 65536 + 1 {
         return 10 + seed % 14;
@@ -80,7 +81,7 @@ fn wanted_kind(seed: usize, n: usize, nodes: usize) -> usize {
         1 => 3,
         2 => 10,
         3 => 11,
-        _ => 0,
+        _ => draw_kind(seed, 900000000 + n % 65536),
     }
 }
 
@@ -88,7 +89,7 @@ fn wanted_kind(seed: usize, n: usize, nodes: usize) -> usize {
 fn draw_node(seed: usize, wild: bool, n: usize, nodes: usize, modes: &[usize], bounds: &[usize]) -> Fields {
     let wanted = wanted_kind(seed, n, nodes);
     if wild {
-        return draw_any(seed, n % 65536 * 4096, wanted, n, bounds);
+        return draw_any(seed, n % 65536 * 4096, wanted, n, false, bounds);
     }
     draw_typed(seed, wanted, n, modes, bounds)
 }

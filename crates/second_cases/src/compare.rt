@@ -1,15 +1,15 @@
 // One sheet, given to both.
 use crate::Answer;
 use crate::Expected;
+use crate::coverage;
 use crate::first;
-use crate::report::KINDS;
 use crate::report::REFUSED;
 use crate::report::SHEETS;
 use crate::report::TABLES;
 use crate::report::add;
+use crate::report::add_rows;
 use crate::report::differ;
 use crate::tables;
-use naive::Areas;
 use naive::Found;
 ghost use mathlib.Core.Path.{_≡_};
 ghost use lib.ListN.{length};
@@ -56,17 +56,6 @@ fn item(list: &[usize], i: usize) -> usize {
     if i < list.len() { list[i] } else { 0 }
 }
 
-// Counts the nodes of a sheet by kind.
-fn count_kinds(bytes: &[u8], laid: Areas, counts: &mut [u64]) {
-    let nodes = laid.nodes;
-    let mut n = 0;
-    while n < nodes {
-        let node = naive::node_at(bytes, laid.nodes_at, n);
-        add(counts, KINDS + node.kind % 32, 1);
-        n += 1;
-    }
-}
-
 // A table: its header, what stands behind it, the loader, the verdicts and the rows.
 fn compare_table(
     out: &[u8],
@@ -79,6 +68,7 @@ fn compare_table(
 ) {
     let size = 8 + naive::times(answer.actions, answer.rows);
     add(counts, TABLES, 1);
+    add_rows(counts, answer.rows);
     differ(counts, answer.mode != mode);
     differ(counts, (0 < expected.rows) & (expected.rows != answer.rows));
     differ(counts, !tables::untouched(out, size));
@@ -127,7 +117,7 @@ fn compare_sound(
         differ(counts, !over(&truths, spot, item(modes, spot), laid.actions));
         return;
     }
-    count_kinds(bytes, laid, counts);
+    coverage::count(bytes, laid, counts);
     if 0 < laid.nodes {
         let n = laid.nodes - 1;
         compare_table(out, answer, expected, &truths, n, item(modes, n), counts);

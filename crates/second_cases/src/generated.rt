@@ -72,7 +72,7 @@ fn sound(seed: usize, counts: &mut [u64]) {
     let mut sheet = room_for_sheet();
     let mut modes = room_for_types();
     let mut bounds = room_for_types();
-    let nodes = 5 + generate::draw(seed, 51, 8) % 8;
+    let nodes = 6 + generate::draw(seed, 51, 10) % 10;
     let length = generate::draw_sheet(seed, false, draw_actions(seed), nodes, &mut modes, &mut bounds, &mut sheet);
     unknown(&sheet, length, counts);
 }

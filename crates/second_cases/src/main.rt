@@ -2,6 +2,7 @@
 // sheets. Compared are refusals and spots, and of a table its verdict after every sequence up to a length, its rows, and that the loader accepts it.
 mod cases;
 mod compare;
+mod coverage;
 mod first;
 mod generated;
 mod report;

@@ -14,17 +14,8 @@ abbrev μ-loop : tie.MeasureT-loop
 loop-holds : tie.Need-loop-holds Inv-loop μ-loop
 loop-holds c = search needs
 
-mul-draw-any : tie.Need-mul-draw-any Inv-loop μ-loop
-mul-draw-any c = search needs
-
-mul-draw-any-2 : tie.Need-mul-draw-any-2 Inv-loop μ-loop
-mul-draw-any-2 c = search needs
-
-add-draw-any : tie.Need-add-draw-any Inv-loop μ-loop
-add-draw-any c = search needs
-
-draw-any-requires : tie.Need-draw-any-requires Inv-loop μ-loop
-draw-any-requires c κs = search needs
+draw-try-requires : tie.Need-draw-try-requires Inv-loop μ-loop
+draw-try-requires c κs = search needs
 
 type-of-requires : tie.Need-type-of-requires Inv-loop μ-loop
 type-of-requires c κs = search needs
@@ -51,10 +42,7 @@ draw-typed-spec =
     Inv-loop
     μ-loop
     loop-holds
-    mul-draw-any
-    mul-draw-any-2
-    add-draw-any
-    draw-any-requires
+    draw-try-requires
     type-of-requires
     returns
     add-i
