@@ -31,7 +31,7 @@ fn case(actions: &[u8], nodes: &[u8], expected: Expected, rows: &[u8], counts: &
     let mut out = room_for_table();
     let length = generate::compose(actions, nodes, &mut sheet);
     if length <= 1024 {
-        compare(&sheet[..length], expected, &mut out, counts);
+        compare(&sheet[0..length], expected, &mut out, counts);
         differ(counts, !same_rows(&out, rows));
     }
 }
@@ -59,8 +59,8 @@ fn refuses(actions: &[u8], nodes: &[u8], number: usize, spot: usize, counts: &mu
 // One action.
 const ONE: [u8; 2] = [1, 0];
 
-// The cases with one or two parts.
-fn small(counts: &mut [u64]) {
+// One row.
+fn one_row(counts: &mut [u64]) {
     // Always Holds not charge
     gives(
         &ROASTERY,
@@ -71,6 +71,10 @@ fn small(counts: &mut [u64]) {
     );
     // Eventually Now drop
     gives(&ROASTERY, &[3, 1, 0, 0, 0, 10, 0, 0, 0, 0, 16, 0, 1, 0, 0], 1, &[0, 255, 0, 0], counts);
+}
+
+// Holds drop, written in two ways.
+fn holds(counts: &mut [u64]) {
     // Holds drop
     gives(&ROASTERY, &[3, 1, 0, 0, 0, 11, 0, 0, 0, 0], 2, &[255, 1, 255, 255, 1, 1, 1, 1], counts);
     // Not Now not drop
@@ -81,10 +85,18 @@ fn small(counts: &mut [u64]) {
         &[255, 1, 255, 255, 1, 1, 1, 1],
         counts,
     );
+}
+
+// Now false and Now true.
+fn constants(counts: &mut [u64]) {
     // Now false
     gives(&ROASTERY, &[2, 0, 0, 0, 0, 10, 0, 0, 0, 0], 1, &[0, 0, 0, 0], counts);
     // Now true
     gives(&ROASTERY, &[1, 0, 0, 0, 0, 10, 0, 0, 0, 0], 1, &[255, 255, 255, 255], counts);
+}
+
+// Count and Ignoring.
+fn counting(counts: &mut [u64]) {
     // Count 2
     gives(&ROASTERY, &[12, 2, 0, 0, 0], 2, &[1, 1, 1, 1, 255, 255, 255, 255], counts);
     // Ignoring log (Holds drop)
@@ -97,8 +109,8 @@ fn small(counts: &mut [u64]) {
     );
 }
 
-// The cases with more parts.
-fn larger(counts: &mut [u64]) {
+// Before+.
+fn before(counts: &mut [u64]) {
     // Before+ (Eventually Now tray) (Always Holds not charge)
     let before = [
         3, 2, 0, 0, 0, 10, 0, 0, 0, 0, 16, 0, 1, 0, 0, 3, 0, 0, 0, 0, 4, 0, 3, 0, 0, 11, 0, 4, 0, 0, 17, 0, 5, 0, 0, 19, 0,
@@ -106,6 +118,10 @@ fn larger(counts: &mut [u64]) {
     ];
     gives(&ROASTERY, &before, 2, &[255, 0, 1, 0, 1, 1, 1, 1], counts);
     gives(&WITH_BOTH, &before, 2, &[255, 0, 1, 0, 255, 1, 1, 1, 1, 1], counts);
+}
+
+// After+.
+fn after(counts: &mut [u64]) {
     // After+ (Eventually Now drop) (Always Holds not charge)
     gives(
         &ROASTERY,
@@ -117,6 +133,10 @@ fn larger(counts: &mut [u64]) {
         &[0, 1, 0, 0, 255, 1, 1, 1],
         counts,
     );
+}
+
+// Fulfilling.
+fn fulfilling(counts: &mut [u64]) {
     // Fulfilling 1 (Now log) (Holds true) (Always Holds not drop)
     gives(
         &ROASTERY,
@@ -128,6 +148,10 @@ fn larger(counts: &mut [u64]) {
         &[1, 1, 1, 2, 1, 255, 1, 1, 2, 2, 2, 2],
         counts,
     );
+}
+
+// Whenever.
+fn whenever(counts: &mut [u64]) {
     // Whenever (Eventually Now charge): Before+ (Eventually Now drop) (Always Holds not charge)
     gives(
         &ROASTERY,
@@ -141,8 +165,8 @@ fn larger(counts: &mut [u64]) {
     );
 }
 
-// The cases at the limits.
-fn limits(counts: &mut [u64]) {
+// Parts of a wrong type, and a k that is not the bound.
+fn wrong_types(counts: &mut [u64]) {
     // Eventually Holds drop
     refuses(&ROASTERY, &[3, 1, 0, 0, 0, 11, 0, 0, 0, 0, 16, 0, 1, 0, 0], 6, 2, counts);
     // Fulfilling 2 (Now log)
@@ -153,10 +177,18 @@ fn limits(counts: &mut [u64]) {
         4,
         counts,
     );
+}
+
+// The longest Count.
+fn long_counts(counts: &mut [u64]) {
     // Count 60 and 61
     gives(&ROASTERY, &[12, 60, 0, 0, 0], 60, b"", counts);
     gives(&ONE, &[12, 60, 0, 0, 0], 60, b"", counts);
     refuses(&ROASTERY, &[12, 61, 0, 0, 0], 5, 0, counts);
+}
+
+// The most rows.
+fn most_rows(counts: &mut [u64]) {
     // After- (Count 60) (Count 4), and with Count 5
     gives(&ROASTERY, &[12, 60, 0, 0, 0, 12, 4, 0, 0, 0, 20, 0, 0, 1, 0], 64, b"", counts);
     gives(&ONE, &[12, 60, 0, 0, 0, 12, 4, 0, 0, 0, 20, 0, 0, 1, 0], 64, b"", counts);
@@ -169,7 +201,7 @@ fn towers(counts: &mut [u64]) {
         12, 60, 0, 0, 0, 20, 0, 0, 0, 0, 20, 0, 1, 1, 0, 20, 0, 2, 2, 0, 20, 0, 3, 3, 0, 20, 0, 4, 4, 0, 20, 0, 5, 5, 0, 20,
         0, 6, 6, 0, 20, 0, 7, 7, 0, 20, 0, 8, 8, 0, 20, 0, 9, 9, 0, 20, 0, 10, 10, 0,
     ];
-    refuses(&ROASTERY, &tower[..55], 9, 1, counts);
+    refuses(&ROASTERY, &tower[0..55], 9, 1, counts);
     refuses(&ROASTERY, &tower, 7, 11, counts);
 }
 
@@ -195,11 +227,34 @@ fn products(counts: &mut [u64]) {
     );
 }
 
+// The cases with few nodes.
+fn small(counts: &mut [u64]) {
+    one_row(counts);
+    holds(counts);
+    constants(counts);
+    counting(counts);
+}
+
+// The cases with more nodes.
+fn larger(counts: &mut [u64]) {
+    before(counts);
+    after(counts);
+    fulfilling(counts);
+    whenever(counts);
+}
+
+// The cases at the limits.
+fn limits(counts: &mut [u64]) {
+    wrong_types(counts);
+    long_counts(counts);
+    most_rows(counts);
+    towers(counts);
+    products(counts);
+}
+
 // All of them.
 pub fn run(counts: &mut [u64]) {
     small(counts);
     larger(counts);
     limits(counts);
-    towers(counts);
-    products(counts);
 }

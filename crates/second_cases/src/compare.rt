@@ -10,6 +10,7 @@ use crate::report::add;
 use crate::report::add_rows;
 use crate::report::differ;
 use crate::tables;
+use naive::Finding;
 use naive::Found;
 ghost use mathlib.Core.Path.{_≡_};
 ghost use lib.ListN.{length};
@@ -56,7 +57,24 @@ fn item(list: &[usize], i: usize) -> usize {
     if i < list.len() { list[i] } else { 0 }
 }
 
-// A table: its header, what stands behind it, the loader, the verdicts and the rows.
+// A table's bytes: the loader, the verdicts and the rows.
+fn compare_bytes(bytes: &[u8], answer: Answer, truths: &[u8], n: usize, counts: &mut [u64]) {
+    let mut met = room_for_met();
+    let mut entries = room_for_entries();
+    let found = naive::rows_of(truths, n, answer.mode, answer.actions, &mut met, &mut entries);
+    differ(counts, !tables::accepted(bytes, answer));
+    tables::compare_verdicts(bytes, answer, truths, n, counts);
+    tables::compare_rows(bytes, answer, found.rows, found.whole, &entries, counts);
+}
+
+// A table's type and rows, and what stands behind it.
+fn compare_answer(out: &[u8], size: usize, answer: Answer, expected: Expected, mode: usize, counts: &mut [u64]) {
+    differ(counts, answer.mode != mode);
+    differ(counts, (0 < expected.rows) & (expected.rows != answer.rows));
+    differ(counts, !tables::untouched(out, size));
+}
+
+// A table of the policy n.
 fn compare_table(
     out: &[u8],
     answer: Answer,
@@ -69,17 +87,9 @@ fn compare_table(
     let size = 8 + naive::times(answer.actions, answer.rows);
     add(counts, TABLES, 1);
     add_rows(counts, answer.rows);
-    differ(counts, answer.mode != mode);
-    differ(counts, (0 < expected.rows) & (expected.rows != answer.rows));
-    differ(counts, !tables::untouched(out, size));
+    compare_answer(out, size, answer, expected, mode, counts);
     if size <= out.len() {
-        let bytes = &out[..size];
-        differ(counts, !tables::accepted(bytes, answer));
-        tables::compare_verdicts(bytes, answer, truths, n, counts);
-        let mut met = room_for_met();
-        let mut entries = room_for_entries();
-        let found = naive::rows_of(truths, n, mode, answer.actions, &mut met, &mut entries);
-        tables::compare_rows(bytes, answer, found.rows, found.whole, &entries, counts);
+        compare_bytes(&out[0..size], answer, truths, n, counts);
     }
 }
 
@@ -124,18 +134,37 @@ fn compare_sound(
     }
 }
 
-// Gives a sheet to both and compares. The compiler's table is written to `out`, each of whose bytes is 170.
-pub fn compare(bytes: &[u8], expected: Expected, out: &mut [u8], counts: &mut [u64]) {
-    let answer = first::answer(bytes, out);
-    let mut modes = room_for_types();
-    let mut bounds = room_for_types();
-    let finding = naive::judge(bytes, &mut modes, &mut bounds);
-    add(counts, SHEETS, 1);
-    add(counts, REFUSED + answer.number % 16, 1);
-    differ(counts, ((0 < expected.number) & (expected.number < 8)) & (expected.number != finding.number));
+// Beside what the naive checks 1 to 7 find.
+fn compare_finding(
+    bytes: &[u8],
+    out: &[u8],
+    answer: Answer,
+    expected: Expected,
+    finding: Finding,
+    modes: &[usize],
+    counts: &mut [u64],
+) {
     if 0 < finding.number {
         differ(counts, (answer.number != finding.number) | (answer.spot != finding.spot));
         return;
     }
-    compare_sound(bytes, out, answer, expected, &modes, counts);
+    compare_sound(bytes, out, answer, expected, modes, counts);
+}
+
+// Counts a sheet, and compares what the naive checks find with a refusal 1 to 7 that is known.
+fn count_sheet(answer: Answer, expected: Expected, finding: Finding, counts: &mut [u64]) {
+    let known = (0 < expected.number) & (expected.number < 8);
+    add(counts, SHEETS, 1);
+    add(counts, REFUSED + answer.number % 16, 1);
+    differ(counts, known & ((expected.number != finding.number) | (expected.spot != finding.spot)));
+}
+
+// Gives a sheet to both and compares. The compiler's table is written to `out`, each of whose bytes is 170.
+pub fn compare(bytes: &[u8], expected: Expected, out: &mut [u8], counts: &mut [u64]) {
+    let mut modes = room_for_types();
+    let mut bounds = room_for_types();
+    let finding = naive::judge(bytes, &mut modes, &mut bounds);
+    let answer = first::answer(bytes, out);
+    count_sheet(answer, expected, finding, counts);
+    compare_finding(bytes, out, answer, expected, finding, &modes, counts);
 }

@@ -7,6 +7,7 @@ use crate::report::NODES_FIRST;
 use crate::report::SHARED;
 use crate::report::UNUSED;
 use crate::report::add;
+use crate::report::add_if;
 use crate::report::count_at;
 use naive::Areas;
 ghost use mathlib.Core.Path.{_≡_};
@@ -18,22 +19,17 @@ fn room_for_uses() -> [u64; 64]
     [0u64; 64]
 }
 
-// Counts a use of each part of node n, where node n itself is used.
-fn use_parts(bytes: &[u8], nodes_at: usize, n: usize, uses: &mut [u64]) {
+// Counts a use of each part of node n, where node n itself is used. The last node is used once.
+fn use_parts(bytes: &[u8], nodes_at: usize, n: usize, last: bool, uses: &mut [u64]) {
+    add_if(uses, last, n);
     if count_at(uses, n) == 0 {
         return;
     }
     let node = naive::node_at(bytes, nodes_at, n);
     let parts = naive::parts_of(node.kind);
-    if 0 < parts {
-        add(uses, node.a, 1);
-    }
-    if 1 < parts {
-        add(uses, node.b, 1);
-    }
-    if 2 < parts {
-        add(uses, node.c, 1);
-    }
+    add_if(uses, 0 < parts, node.a);
+    add_if(uses, 1 < parts, node.b);
+    add_if(uses, 2 < parts, node.c);
 }
 
 // Counts the uses of every node by the policy, from the last node down.
@@ -41,7 +37,7 @@ fn find_uses(bytes: &[u8], nodes: usize, nodes_at: usize, uses: &mut [u64]) {
     let mut n = nodes;
     while 0 < n {
         n -= 1;
-        use_parts(bytes, nodes_at, n, uses);
+        use_parts(bytes, nodes_at, n, n + 1 == nodes, uses);
     }
 }
 
@@ -54,9 +50,7 @@ fn count_node(bytes: &[u8], nodes_at: usize, n: usize, uses: &[u64], counts: &mu
     }
     let node = naive::node_at(bytes, nodes_at, n);
     add(counts, KINDS + node.kind % 32, 1);
-    if 1 < used {
-        add(counts, SHARED, 1);
-    }
+    add_if(counts, 1 < used, SHARED);
 }
 
 // Counts the nodes.
@@ -72,12 +66,8 @@ fn count_nodes(bytes: &[u8], nodes: usize, nodes_at: usize, uses: &[u64], counts
 fn count_action(bytes: &[u8], actions_at: usize, i: usize, counts: &mut [u64]) {
     let set = naive::number_at(bytes, actions_at % 65536 + 2 * (i % 65536));
     let propositions = u32::count_ones((set % 65536) as u32);
-    if propositions == 0 {
-        add(counts, BARE, 1);
-    }
-    if 1 < propositions {
-        add(counts, COMBINED, 1);
-    }
+    add_if(counts, propositions == 0, BARE);
+    add_if(counts, 1 < propositions, COMBINED);
 }
 
 // Counts the actions.
@@ -91,20 +81,14 @@ fn count_actions(bytes: &[u8], actions: usize, actions_at: usize, counts: &mut [
 
 // Counts the layout: nodes before actions, and bytes that nobody reads.
 fn count_layout(bytes: &[u8], laid: Areas, counts: &mut [u64]) {
-    if laid.nodes_at < laid.actions_at {
-        add(counts, NODES_FIRST, 1);
-    }
-    if 10 + 2 * (laid.actions % 64) + 5 * (laid.nodes % 128) < bytes.len() {
-        add(counts, JUNK, 1);
-    }
+    let read = 10 + 2 * (laid.actions % 64) + 5 * (laid.nodes % 128);
+    add_if(counts, laid.nodes_at < laid.actions_at, NODES_FIRST);
+    add_if(counts, read < bytes.len(), JUNK);
 }
 
 // Counts what a sheet has in it.
 pub fn count(bytes: &[u8], laid: Areas, counts: &mut [u64]) {
     let mut uses = room_for_uses();
-    if 0 < laid.nodes {
-        add(&mut uses, laid.nodes - 1, 1);
-    }
     find_uses(bytes, laid.nodes, laid.nodes_at, &mut uses);
     count_nodes(bytes, laid.nodes, laid.nodes_at, &uses, counts);
     count_actions(bytes, laid.actions, laid.actions_at, counts);

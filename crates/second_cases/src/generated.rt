@@ -24,7 +24,7 @@ fn unknown(bytes: &[u8], length: usize, counts: &mut [u64]) {
     let mut out = room_for_table();
     if length <= bytes.len() {
         compare(
-            &bytes[..length],
+            &bytes[0..length],
             Expected {
                 number: 0,
                 spot: 0,
@@ -42,7 +42,7 @@ fn foreseen(bytes: &[u8], known: Known, counts: &mut [u64]) {
     let length = known.length;
     if length <= bytes.len() {
         compare(
-            &bytes[..length],
+            &bytes[0..length],
             Expected {
                 number: known.number,
                 spot: known.spot,
@@ -96,19 +96,24 @@ fn damaged(seed: usize, counts: &mut [u64]) {
     unknown(&sheet, new_length, counts);
 }
 
+// Writes a sheet whose values and rows are known, of one of six sorts.
+fn write_counted(seed: usize, sheet: &mut [u8]) -> Known {
+    let i = 1 + generate::draw(seed, 52, 60) % 60;
+    let j = 1 + generate::draw(seed, 53, 60) % 60;
+    match seed % 6 {
+        0 => generate::two_counts(i, j, sheet),
+        1 => generate::fulfilled(i, j, sheet),
+        2 => generate::product(i, j, sheet),
+        3 => generate::product(1 + i % 8, 1 + j % 12, sheet),
+        4 => generate::conjunction(1 + i % 12, j, sheet),
+        _ => generate::tower(5 + i % 56, sheet),
+    }
+}
+
 // A sheet whose values and rows are known.
 fn counted(seed: usize, counts: &mut [u64]) {
     let mut sheet = room_for_sheet();
-    let i = 1 + generate::draw(seed, 52, 60) % 60;
-    let j = 1 + generate::draw(seed, 53, 60) % 60;
-    let known = match seed % 6 {
-        0 => generate::two_counts(i, j, &mut sheet),
-        1 => generate::fulfilled(i, j, &mut sheet),
-        2 => generate::product(i, j, &mut sheet),
-        3 => generate::product(1 + i % 8, 1 + j % 12, &mut sheet),
-        4 => generate::conjunction(1 + i % 12, j, &mut sheet),
-        _ => generate::tower(5 + i % 56, &mut sheet),
-    };
+    let known = write_counted(seed, &mut sheet);
     foreseen(&sheet, known, counts);
 }
 

@@ -33,11 +33,16 @@ pub fn add(counts: &mut [u64], slot: usize, more: u64) {
     }
 }
 
+// Adds one where a test holds.
+pub fn add_if(counts: &mut [u64], holds: bool, slot: usize) {
+    if holds {
+        add(counts, slot, 1);
+    }
+}
+
 // Adds one where two answers differ.
 pub fn differ(counts: &mut [u64], different: bool) {
-    if different {
-        add(counts, DISAGREEMENTS, 1);
-    }
+    add_if(counts, different, DISAGREEMENTS);
 }
 
 // A count, or 0 past the end.
@@ -49,9 +54,9 @@ pub fn count_at(counts: &[u64], slot: usize) -> u64 {
 pub fn add_rows(counts: &mut [u64], rows: usize) {
     if rows < 9 {
         add(counts, ROWS + rows, 1);
-    } else {
-        add(counts, ROWS + 9, 1);
+        return;
     }
+    add(counts, ROWS + 9, 1);
 }
 
 // Writes a word and a count.

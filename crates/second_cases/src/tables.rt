@@ -5,6 +5,7 @@ use crate::report::ALL_ROWS;
 use crate::report::ENTRIES;
 use crate::report::SEQUENCES;
 use crate::report::add;
+use crate::report::add_if;
 use crate::report::differ;
 use naive::UNKNOWN;
 use table::Loaded;
@@ -106,11 +107,9 @@ pub fn compare_rows(bytes: &[u8], answer: Answer, rows: usize, whole: bool, entr
     let complete = whole & (answer.rows == rows);
     let short = 2 * (answer.rows % 256) <= naive::longest(answer.actions) + 1;
     differ(counts, short & !complete);
+    add_if(counts, complete, ALL_ROWS);
     if answer.rows == rows {
         compare_entries(bytes, answer, entries, counts);
-    }
-    if complete {
-        add(counts, ALL_ROWS, 1);
     }
 }
 
