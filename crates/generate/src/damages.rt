@@ -6,9 +6,7 @@ use naive::put_number;
 // Damage of the length: a byte too few, a total one too high, or a header cut off.
 fn damage_length(seed: usize, length: usize, out: &mut [u8]) -> usize {
     match draw(seed, 11, 3) {
-        0 => {
-            if 0 < length { length - 1 } else { 0 }
-        }
+        0 => { if 0 < length { length - 1 } else { 0 } }
         1 => {
             put_number(out, 8, length % 65536 + 1);
             length
@@ -66,7 +64,11 @@ pub fn damage(seed: usize, length: usize, out: &mut [u8]) -> usize {
         1 => damage_counts(seed, out),
         2 => damage_offsets(seed, length, out),
         3 => put(out, from, unknown_kind(seed)),
-        4 => put(out, from + 1 + draw(seed, 25, 4) % 4, 1 + draw(seed, 26, 70) % 128),
+        4 => put(
+            out,
+            from + 1 + draw(seed, 25, 4) % 4,
+            1 + draw(seed, 26, 70) % 128,
+        ),
         5 => put(out, from + 2 + draw(seed, 27, 2) % 2, draw(seed, 28, 8)),
         _ => put(out, draw(seed, 29, length), draw(seed, 30, 256)),
     }

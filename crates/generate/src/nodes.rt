@@ -55,7 +55,14 @@ fn draw_part(seed: usize, place: usize, n: usize, near: bool) -> usize {
 }
 
 // Fields for node n of a kind, with parts below n, whatever their types.
-fn draw_fields(seed: usize, place: usize, kind: usize, n: usize, near: bool, bounds: &[usize]) -> Fields {
+fn draw_fields(
+    seed: usize,
+    place: usize,
+    kind: usize,
+    n: usize,
+    near: bool,
+    bounds: &[usize],
+) -> Fields {
     let start = place % 4294967296;
     let parts = naive::parts_of(kind);
     let a = used(0 < parts, draw_part(seed, start + 1, n, near));
@@ -72,7 +79,14 @@ fn draw_fields(seed: usize, place: usize, kind: usize, n: usize, near: bool, bou
 }
 
 // A node of the wanted kind, or of any kind where that is 0.
-pub fn draw_any(seed: usize, place: usize, wanted: usize, n: usize, near: bool, bounds: &[usize]) -> Fields {
+pub fn draw_any(
+    seed: usize,
+    place: usize,
+    wanted: usize,
+    n: usize,
+    near: bool,
+    bounds: &[usize],
+) -> Fields {
     if 0 < wanted {
         return draw_fields(seed, place, wanted, n, near, bounds);
     }
@@ -90,7 +104,13 @@ fn draw_try(seed: usize, i: usize, wanted: usize, n: usize, bounds: &[usize]) ->
 }
 
 // A node n that fits the types before it: the first that fits of many drawn, else Count 2.
-pub fn draw_typed(seed: usize, wanted: usize, n: usize, modes: &[usize], bounds: &[usize]) -> Fields {
+pub fn draw_typed(
+    seed: usize,
+    wanted: usize,
+    n: usize,
+    modes: &[usize],
+    bounds: &[usize],
+) -> Fields {
     let mut i = 0;
     while i < 400 {
         let node = draw_try(seed, i, wanted, n, bounds);

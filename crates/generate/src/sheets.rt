@@ -1,8 +1,8 @@
 // Drawing whole sheets.
+use crate::draws::draw;
 use crate::layout::Plan;
 use crate::layout::write_header;
 use crate::layout::write_node;
-use crate::draws::draw;
 use crate::nodes::draw_any;
 use crate::nodes::draw_kind;
 use crate::nodes::draw_typed;
@@ -86,7 +86,14 @@ fn wanted_kind(seed: usize, n: usize, nodes: usize) -> usize {
 }
 
 // Draws node n: of fitting types, or in a wild sheet of any.
-fn draw_node(seed: usize, wild: bool, n: usize, nodes: usize, modes: &[usize], bounds: &[usize]) -> Fields {
+fn draw_node(
+    seed: usize,
+    wild: bool,
+    n: usize,
+    nodes: usize,
+    modes: &[usize],
+    bounds: &[usize],
+) -> Fields {
     let wanted = wanted_kind(seed, n, nodes);
     if wild {
         return draw_any(seed, n % 65536 * 4096, wanted, n, false, bounds);
@@ -119,7 +126,14 @@ fn write_next(
 }
 
 // Writes the node list.
-fn write_nodes(seed: usize, wild: bool, plan: Plan, modes: &mut [usize], bounds: &mut [usize], out: &mut [u8]) {
+fn write_nodes(
+    seed: usize,
+    wild: bool,
+    plan: Plan,
+    modes: &mut [usize],
+    bounds: &mut [usize],
+    out: &mut [u8],
+) {
     let nodes = plan.nodes;
     let mut n = 0;
     while n < nodes {

@@ -12,11 +12,7 @@ fn wide(x: u8) -> usize
 pub fn at(bytes: &[u8], i: usize) -> usize
     ensures { λ r. ⌜ r < 256 ⌝ }
 {
-    if i < bytes.len() {
-        wide(bytes[i])
-    } else {
-        0
-    }
+    if i < bytes.len() { wide(bytes[i]) } else { 0 }
 }
 
 // The 16-bit number at i, low byte first.

@@ -8,7 +8,13 @@ use crate::types::type_of;
 ghost use Prim.Native.Nat.{_<_, _≤_};
 
 // Whether the areas lie behind the header, inside the total and apart.
-fn apart(actions_at: usize, actions_end: usize, nodes_at: usize, nodes_end: usize, total: usize) -> bool {
+fn apart(
+    actions_at: usize,
+    actions_end: usize,
+    nodes_at: usize,
+    nodes_end: usize,
+    total: usize,
+) -> bool {
     let behind = (10 <= actions_at) & (10 <= nodes_at);
     let inside = (actions_end <= total) & (nodes_end <= total);
     behind & inside & ((actions_end <= nodes_at) | (nodes_end <= actions_at))
@@ -35,7 +41,13 @@ fn first_fault(bytes: &[u8]) -> usize
     }
     let actions_at = number_at(bytes, 4);
     let nodes_at = number_at(bytes, 6);
-    if apart(actions_at, actions_at + 2 * actions, nodes_at, nodes_at + 5 * nodes, total) {
+    if apart(
+        actions_at,
+        actions_at + 2 * actions,
+        nodes_at,
+        nodes_at + 5 * nodes,
+        total,
+    ) {
         return 0;
     }
     3
@@ -74,7 +86,13 @@ fn set(list: &mut [usize], i: usize, value: usize) {
 }
 
 // Types node n and keeps its mode and bound: 0, or the refusal 4 to 7.
-fn check_node(bytes: &[u8], nodes_at: usize, n: usize, modes: &mut [usize], bounds: &mut [usize]) -> usize {
+fn check_node(
+    bytes: &[u8],
+    nodes_at: usize,
+    n: usize,
+    modes: &mut [usize],
+    bounds: &mut [usize],
+) -> usize {
     let found = type_of(node_at(bytes, nodes_at, n), n, modes, bounds);
     set(modes, n, found.mode);
     set(bounds, n, found.bound);
@@ -96,7 +114,13 @@ fn check_last(nodes: usize, modes: &[usize]) -> Finding {
 }
 
 // Checks 4 to 7, node by node, and then that the last node is a policy.
-fn check_nodes(bytes: &[u8], nodes: usize, nodes_at: usize, modes: &mut [usize], bounds: &mut [usize]) -> Finding {
+fn check_nodes(
+    bytes: &[u8],
+    nodes: usize,
+    nodes_at: usize,
+    modes: &mut [usize],
+    bounds: &mut [usize],
+) -> Finding {
     let mut n = 0;
     while n < nodes {
         let number = check_node(bytes, nodes_at, n, modes, bounds);

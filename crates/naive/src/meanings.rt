@@ -144,7 +144,14 @@ fn leave_out(truths: &[u8], n: usize, sequence: &[u8], kept: &mut [u8]) -> usize
 }
 
 // Ignoring: the sequence without the actions that satisfy formula a satisfies b.
-fn ignoring(truths: &[u8], actions: usize, a: usize, b: usize, sequence: &[u8], kept: &mut [u8]) -> bool {
+fn ignoring(
+    truths: &[u8],
+    actions: usize,
+    a: usize,
+    b: usize,
+    sequence: &[u8],
+    kept: &mut [u8],
+) -> bool {
     let count = leave_out(truths, a, sequence, kept);
     if count <= kept.len() {
         return satisfies(truths, actions, b, &kept[0..count]);
@@ -212,14 +219,28 @@ fn formula(truths: &[u8], node: Fields, action: usize, set: usize) -> bool {
 }
 
 // The truth of a formula node for one action.
-fn evaluate_action(bytes: &[u8], actions_at: usize, action: usize, node: Fields, n: usize, truths: &mut [u8]) {
+fn evaluate_action(
+    bytes: &[u8],
+    actions_at: usize,
+    action: usize,
+    node: Fields,
+    n: usize,
+    truths: &mut [u8],
+) {
     let set = number_at(bytes, actions_at % 65536 + 2 * (action % 65536));
     let holds = formula(truths, node, action, set);
     keep(truths, n, action, holds);
 }
 
 // The truths of a formula node: one for each action.
-fn evaluate_formula(bytes: &[u8], actions_at: usize, actions: usize, node: Fields, n: usize, truths: &mut [u8]) {
+fn evaluate_formula(
+    bytes: &[u8],
+    actions_at: usize,
+    actions: usize,
+    node: Fields,
+    n: usize,
+    truths: &mut [u8],
+) {
     let mut action = 0;
     while action < actions {
         evaluate_action(bytes, actions_at, action, node, n, truths);
@@ -228,7 +249,15 @@ fn evaluate_formula(bytes: &[u8], actions_at: usize, actions: usize, node: Field
 }
 
 // The truth of a policy node on one sequence.
-fn evaluate_at(actions: usize, node: Fields, n: usize, s: usize, truths: &mut [u8], letters: &mut [u8], kept: &mut [u8]) {
+fn evaluate_at(
+    actions: usize,
+    node: Fields,
+    n: usize,
+    s: usize,
+    truths: &mut [u8],
+    letters: &mut [u8],
+    kept: &mut [u8],
+) {
     let length = spell(s, actions, letters);
     if length <= letters.len() {
         let holds = meaning(truths, actions, node, &letters[0..length], kept);
@@ -254,7 +283,14 @@ fn evaluate_policy(
 }
 
 // The truths of node n.
-fn evaluate_node(bytes: &[u8], laid: Areas, n: usize, truths: &mut [u8], letters: &mut [u8], kept: &mut [u8]) {
+fn evaluate_node(
+    bytes: &[u8],
+    laid: Areas,
+    n: usize,
+    truths: &mut [u8],
+    letters: &mut [u8],
+    kept: &mut [u8],
+) {
     let node = node_at(bytes, laid.nodes_at, n);
     if node.kind < 10 {
         evaluate_formula(bytes, laid.actions_at, laid.actions, node, n, truths);

@@ -42,17 +42,17 @@ pub fn last(s: usize, actions: usize) -> usize {
     (s - 1) % actions
 }
 
-// The longest sequences that are judged, for each number of actions.
+// The longest sequences that are judged, for each number of actions; there are at most 2,048 of them.
 pub fn longest(actions: usize) -> usize
     ensures { λ r. ⌜ r < 150 ⌝ }
 {
     match actions {
         1 => 130,
-        2 => 8,
+        2 => 9,
         3 => 6,
         4 => 5,
-        5 => 4,
-        6 | 7 | 8 => 3,
+        5 | 6 => 4,
+        7 | 8 | 9 | 10 | 11 | 12 => 3,
         _ => 2,
     }
 }

@@ -106,9 +106,7 @@ fn mode_of(kind: usize, a: usize, b: usize) -> usize {
     match kind {
         10 | 12 | 16 | 18 | 20 => 2,
         11 | 17 | 19 | 21 | 22 => 1,
-        13 => {
-            if a == 1 { 2 } else { 1 }
-        }
+        13 => { if a == 1 { 2 } else { 1 } }
         14 | 15 => a,
         23 => b,
         _ => 0,
@@ -160,7 +158,13 @@ pub fn type_of(node: Fields, n: usize, modes: &[usize], bounds: &[usize]) -> Typ
     if (node.kind == 22) & (bound_a != node.argument) {
         return refused(6);
     }
-    let bound = bound_of(node.kind, node.argument, bound_a, bound_at(bounds, node.b), bound_at(bounds, node.c));
+    let bound = bound_of(
+        node.kind,
+        node.argument,
+        bound_a,
+        bound_at(bounds, node.b),
+        bound_at(bounds, node.c),
+    );
     if too_long(bound) {
         return refused(7);
     }

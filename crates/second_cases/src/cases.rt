@@ -70,13 +70,25 @@ fn one_row(counts: &mut [u64]) {
         counts,
     );
     // Eventually Now drop
-    gives(&ROASTERY, &[3, 1, 0, 0, 0, 10, 0, 0, 0, 0, 16, 0, 1, 0, 0], 1, &[0, 255, 0, 0], counts);
+    gives(
+        &ROASTERY,
+        &[3, 1, 0, 0, 0, 10, 0, 0, 0, 0, 16, 0, 1, 0, 0],
+        1,
+        &[0, 255, 0, 0],
+        counts,
+    );
 }
 
 // Holds drop, written in two ways.
 fn holds(counts: &mut [u64]) {
     // Holds drop
-    gives(&ROASTERY, &[3, 1, 0, 0, 0, 11, 0, 0, 0, 0], 2, &[255, 1, 255, 255, 1, 1, 1, 1], counts);
+    gives(
+        &ROASTERY,
+        &[3, 1, 0, 0, 0, 11, 0, 0, 0, 0],
+        2,
+        &[255, 1, 255, 255, 1, 1, 1, 1],
+        counts,
+    );
     // Not Now not drop
     gives(
         &ROASTERY,
@@ -90,15 +102,33 @@ fn holds(counts: &mut [u64]) {
 // Now false and Now true.
 fn constants(counts: &mut [u64]) {
     // Now false
-    gives(&ROASTERY, &[2, 0, 0, 0, 0, 10, 0, 0, 0, 0], 1, &[0, 0, 0, 0], counts);
+    gives(
+        &ROASTERY,
+        &[2, 0, 0, 0, 0, 10, 0, 0, 0, 0],
+        1,
+        &[0, 0, 0, 0],
+        counts,
+    );
     // Now true
-    gives(&ROASTERY, &[1, 0, 0, 0, 0, 10, 0, 0, 0, 0], 1, &[255, 255, 255, 255], counts);
+    gives(
+        &ROASTERY,
+        &[1, 0, 0, 0, 0, 10, 0, 0, 0, 0],
+        1,
+        &[255, 255, 255, 255],
+        counts,
+    );
 }
 
 // Count and Ignoring.
 fn counting(counts: &mut [u64]) {
     // Count 2
-    gives(&ROASTERY, &[12, 2, 0, 0, 0], 2, &[1, 1, 1, 1, 255, 255, 255, 255], counts);
+    gives(
+        &ROASTERY,
+        &[12, 2, 0, 0, 0],
+        2,
+        &[1, 1, 1, 1, 255, 255, 255, 255],
+        counts,
+    );
     // Ignoring log (Holds drop)
     gives(
         &ROASTERY,
@@ -112,12 +142,16 @@ fn counting(counts: &mut [u64]) {
 // Before+.
 fn before(counts: &mut [u64]) {
     // Before+ (Eventually Now tray) (Always Holds not charge)
-    let before = [
-        3, 2, 0, 0, 0, 10, 0, 0, 0, 0, 16, 0, 1, 0, 0, 3, 0, 0, 0, 0, 4, 0, 3, 0, 0, 11, 0, 4, 0, 0, 17, 0, 5, 0, 0, 19, 0,
-        2, 6, 0,
-    ];
-    gives(&ROASTERY, &before, 2, &[255, 0, 1, 0, 1, 1, 1, 1], counts);
-    gives(&WITH_BOTH, &before, 2, &[255, 0, 1, 0, 255, 1, 1, 1, 1, 1], counts);
+    let before =
+        b"\x03\x02\x00\x00\x00\x0a\x00\x00\x00\x00\x10\x00\x01\x00\x00\x03\x00\x00\x00\x00\x04\x00\x03\x00\x00\x0b\x00\x04\x00\x00\x11\x00\x05\x00\x00\x13\x00\x02\x06\x00";
+    gives(&ROASTERY, before, 2, &[255, 0, 1, 0, 1, 1, 1, 1], counts);
+    gives(
+        &WITH_BOTH,
+        before,
+        2,
+        &[255, 0, 1, 0, 255, 1, 1, 1, 1, 1],
+        counts,
+    );
 }
 
 // After+.
@@ -125,10 +159,7 @@ fn after(counts: &mut [u64]) {
     // After+ (Eventually Now drop) (Always Holds not charge)
     gives(
         &ROASTERY,
-        &[
-            3, 1, 0, 0, 0, 10, 0, 0, 0, 0, 16, 0, 1, 0, 0, 3, 0, 0, 0, 0, 4, 0, 3, 0, 0, 11, 0, 4, 0, 0, 17, 0, 5, 0, 0, 21,
-            0, 2, 6, 0,
-        ],
+        b"\x03\x01\x00\x00\x00\x0a\x00\x00\x00\x00\x10\x00\x01\x00\x00\x03\x00\x00\x00\x00\x04\x00\x03\x00\x00\x0b\x00\x04\x00\x00\x11\x00\x05\x00\x00\x15\x00\x02\x06\x00",
         2,
         &[0, 1, 0, 0, 255, 1, 1, 1],
         counts,
@@ -140,10 +171,7 @@ fn fulfilling(counts: &mut [u64]) {
     // Fulfilling 1 (Now log) (Holds true) (Always Holds not drop)
     gives(
         &ROASTERY,
-        &[
-            3, 3, 0, 0, 0, 10, 0, 0, 0, 0, 1, 0, 0, 0, 0, 11, 0, 2, 0, 0, 3, 1, 0, 0, 0, 4, 0, 4, 0, 0, 11, 0, 5, 0, 0, 17,
-            0, 6, 0, 0, 22, 1, 1, 3, 7,
-        ],
+        b"\x03\x03\x00\x00\x00\x0a\x00\x00\x00\x00\x01\x00\x00\x00\x00\x0b\x00\x02\x00\x00\x03\x01\x00\x00\x00\x04\x00\x04\x00\x00\x0b\x00\x05\x00\x00\x11\x00\x06\x00\x00\x16\x01\x01\x03\x07",
         3,
         &[1, 1, 1, 2, 1, 255, 1, 1, 2, 2, 2, 2],
         counts,
@@ -155,10 +183,7 @@ fn whenever(counts: &mut [u64]) {
     // Whenever (Eventually Now charge): Before+ (Eventually Now drop) (Always Holds not charge)
     gives(
         &ROASTERY,
-        &[
-            3, 0, 0, 0, 0, 10, 0, 0, 0, 0, 16, 0, 1, 0, 0, 3, 1, 0, 0, 0, 10, 0, 3, 0, 0, 16, 0, 4, 0, 0, 4, 0, 0, 0, 0, 11,
-            0, 6, 0, 0, 17, 0, 7, 0, 0, 19, 0, 5, 8, 0, 21, 0, 2, 9, 0, 17, 0, 10, 0, 0,
-        ],
+        b"\x03\x00\x00\x00\x00\x0a\x00\x00\x00\x00\x10\x00\x01\x00\x00\x03\x01\x00\x00\x00\x0a\x00\x03\x00\x00\x10\x00\x04\x00\x00\x04\x00\x00\x00\x00\x0b\x00\x06\x00\x00\x11\x00\x07\x00\x00\x13\x00\x05\x08\x00\x15\x00\x02\x09\x00\x11\x00\x0a\x00\x00",
         2,
         &[1, 0, 0, 0, 255, 0, 1, 1],
         counts,
@@ -168,11 +193,17 @@ fn whenever(counts: &mut [u64]) {
 // Parts of a wrong type, and a k that is not the bound.
 fn wrong_types(counts: &mut [u64]) {
     // Eventually Holds drop
-    refuses(&ROASTERY, &[3, 1, 0, 0, 0, 11, 0, 0, 0, 0, 16, 0, 1, 0, 0], 6, 2, counts);
+    refuses(
+        &ROASTERY,
+        &[3, 1, 0, 0, 0, 11, 0, 0, 0, 0, 16, 0, 1, 0, 0],
+        6,
+        2,
+        counts,
+    );
     // Fulfilling 2 (Now log)
     refuses(
         &ROASTERY,
-        &[3, 3, 0, 0, 0, 10, 0, 0, 0, 0, 1, 0, 0, 0, 0, 11, 0, 2, 0, 0, 22, 2, 1, 3, 3],
+        b"\x03\x03\x00\x00\x00\x0a\x00\x00\x00\x00\x01\x00\x00\x00\x00\x0b\x00\x02\x00\x00\x16\x02\x01\x03\x03",
         6,
         4,
         counts,
@@ -190,37 +221,59 @@ fn long_counts(counts: &mut [u64]) {
 // The most rows.
 fn most_rows(counts: &mut [u64]) {
     // After- (Count 60) (Count 4), and with Count 5
-    gives(&ROASTERY, &[12, 60, 0, 0, 0, 12, 4, 0, 0, 0, 20, 0, 0, 1, 0], 64, b"", counts);
-    gives(&ONE, &[12, 60, 0, 0, 0, 12, 4, 0, 0, 0, 20, 0, 0, 1, 0], 64, b"", counts);
-    refuses(&ROASTERY, &[12, 60, 0, 0, 0, 12, 5, 0, 0, 0, 20, 0, 0, 1, 0], 9, 2, counts);
+    gives(
+        &ROASTERY,
+        &[12, 60, 0, 0, 0, 12, 4, 0, 0, 0, 20, 0, 0, 1, 0],
+        64,
+        b"",
+        counts,
+    );
+    gives(
+        &ONE,
+        &[12, 60, 0, 0, 0, 12, 4, 0, 0, 0, 20, 0, 0, 1, 0],
+        64,
+        b"",
+        counts,
+    );
+    refuses(
+        &ROASTERY,
+        &[12, 60, 0, 0, 0, 12, 5, 0, 0, 0, 20, 0, 0, 1, 0],
+        9,
+        2,
+        counts,
+    );
 }
 
 // Count 60, and each next node After- of the one before twice, with 11 nodes and with 12.
 fn towers(counts: &mut [u64]) {
-    let tower = [
-        12, 60, 0, 0, 0, 20, 0, 0, 0, 0, 20, 0, 1, 1, 0, 20, 0, 2, 2, 0, 20, 0, 3, 3, 0, 20, 0, 4, 4, 0, 20, 0, 5, 5, 0, 20,
-        0, 6, 6, 0, 20, 0, 7, 7, 0, 20, 0, 8, 8, 0, 20, 0, 9, 9, 0, 20, 0, 10, 10, 0,
-    ];
-    refuses(&ROASTERY, &tower[0..55], 9, 1, counts);
-    refuses(&ROASTERY, &tower, 7, 11, counts);
+    refuses(
+        &ROASTERY,
+        b"\x0c\x3c\x00\x00\x00\x14\x00\x00\x00\x00\x14\x00\x01\x01\x00\x14\x00\x02\x02\x00\x14\x00\x03\x03\x00\x14\x00\x04\x04\x00\x14\x00\x05\x05\x00\x14\x00\x06\x06\x00\x14\x00\x07\x07\x00\x14\x00\x08\x08\x00\x14\x00\x09\x09\x00",
+        9,
+        1,
+        counts,
+    );
+    refuses(
+        &ROASTERY,
+        b"\x0c\x3c\x00\x00\x00\x14\x00\x00\x00\x00\x14\x00\x01\x01\x00\x14\x00\x02\x02\x00\x14\x00\x03\x03\x00\x14\x00\x04\x04\x00\x14\x00\x05\x05\x00\x14\x00\x06\x06\x00\x14\x00\x07\x07\x00\x14\x00\x08\x08\x00\x14\x00\x09\x09\x00\x14\x00\x0a\x0a\x00",
+        7,
+        11,
+        counts,
+    );
 }
 
 // Or (Ignoring p0: Count 32) (Ignoring p1: Count 32), and with Count 33 in one.
 fn products(counts: &mut [u64]) {
     refuses(
         &TWO,
-        &[
-            3, 0, 0, 0, 0, 3, 1, 0, 0, 0, 12, 32, 0, 0, 0, 12, 32, 0, 0, 0, 23, 0, 0, 2, 0, 23, 0, 1, 3, 0, 15, 0, 4, 5, 0,
-        ],
+        b"\x03\x00\x00\x00\x00\x03\x01\x00\x00\x00\x0c\x20\x00\x00\x00\x0c\x20\x00\x00\x00\x17\x00\x00\x02\x00\x17\x00\x01\x03\x00\x0f\x00\x04\x05\x00",
         9,
         6,
         counts,
     );
     refuses(
         &TWO,
-        &[
-            3, 0, 0, 0, 0, 3, 1, 0, 0, 0, 12, 33, 0, 0, 0, 12, 32, 0, 0, 0, 23, 0, 0, 2, 0, 23, 0, 1, 3, 0, 15, 0, 4, 5, 0,
-        ],
+        b"\x03\x00\x00\x00\x00\x03\x01\x00\x00\x00\x0c\x21\x00\x00\x00\x0c\x20\x00\x00\x00\x17\x00\x00\x02\x00\x17\x00\x01\x03\x00\x0f\x00\x04\x05\x00",
         8,
         6,
         counts,

@@ -61,14 +61,28 @@ fn item(list: &[usize], i: usize) -> usize {
 fn compare_bytes(bytes: &[u8], answer: Answer, truths: &[u8], n: usize, counts: &mut [u64]) {
     let mut met = room_for_met();
     let mut entries = room_for_entries();
-    let found = naive::rows_of(truths, n, answer.mode, answer.actions, &mut met, &mut entries);
+    let found = naive::rows_of(
+        truths,
+        n,
+        answer.mode,
+        answer.actions,
+        &mut met,
+        &mut entries,
+    );
     differ(counts, !tables::accepted(bytes, answer));
     tables::compare_verdicts(bytes, answer, truths, n, counts);
     tables::compare_rows(bytes, answer, found.rows, found.whole, &entries, counts);
 }
 
 // A table's type and rows, and what stands behind it.
-fn compare_answer(out: &[u8], size: usize, answer: Answer, expected: Expected, mode: usize, counts: &mut [u64]) {
+fn compare_answer(
+    out: &[u8],
+    size: usize,
+    answer: Answer,
+    expected: Expected,
+    mode: usize,
+    counts: &mut [u64],
+) {
     differ(counts, answer.mode != mode);
     differ(counts, (0 < expected.rows) & (expected.rows != answer.rows));
     differ(counts, !tables::untouched(out, size));
@@ -114,7 +128,10 @@ fn compare_sound(
     counts: &mut [u64],
 ) {
     if 0 < expected.number {
-        differ(counts, (answer.number != expected.number) | (answer.spot != expected.spot));
+        differ(
+            counts,
+            (answer.number != expected.number) | (answer.spot != expected.spot),
+        );
         return;
     }
     let laid = naive::find_areas(bytes);
@@ -124,7 +141,10 @@ fn compare_sound(
     naive::evaluate(bytes, laid, &mut truths, &mut letters, &mut kept);
     if 0 < answer.number {
         let spot = answer.spot;
-        differ(counts, !over(&truths, spot, item(modes, spot), laid.actions));
+        differ(
+            counts,
+            !over(&truths, spot, item(modes, spot), laid.actions),
+        );
         return;
     }
     coverage::count(bytes, laid, counts);
@@ -145,7 +165,10 @@ fn compare_finding(
     counts: &mut [u64],
 ) {
     if 0 < finding.number {
-        differ(counts, (answer.number != finding.number) | (answer.spot != finding.spot));
+        differ(
+            counts,
+            (answer.number != finding.number) | (answer.spot != finding.spot),
+        );
         return;
     }
     compare_sound(bytes, out, answer, expected, modes, counts);
@@ -156,7 +179,10 @@ fn count_sheet(answer: Answer, expected: Expected, finding: Finding, counts: &mu
     let known = (0 < expected.number) & (expected.number < 8);
     add(counts, SHEETS, 1);
     add(counts, REFUSED + answer.number % 16, 1);
-    differ(counts, known & ((expected.number != finding.number) | (expected.spot != finding.spot)));
+    differ(
+        counts,
+        known & ((expected.number != finding.number) | (expected.spot != finding.spot)),
+    );
 }
 
 // Gives a sheet to both and compares. The compiler's table is written to `out`, each of whose bytes is 170.

@@ -59,8 +59,8 @@ fn draw_actions(seed: usize) -> usize {
     match generate::draw(seed, 50, 16) {
         0 => 1,
         1 => 5,
-        2 => 6,
-        3 => 16,
+        2 => 6 + seed % 4,
+        3 => 13 + seed % 4,
         4 | 5 | 6 | 7 => 4,
         8 | 9 | 10 | 11 => 2,
         _ => 3,
@@ -73,7 +73,15 @@ fn sound(seed: usize, counts: &mut [u64]) {
     let mut modes = room_for_types();
     let mut bounds = room_for_types();
     let nodes = 6 + generate::draw(seed, 51, 10) % 10;
-    let length = generate::draw_sheet(seed, false, draw_actions(seed), nodes, &mut modes, &mut bounds, &mut sheet);
+    let length = generate::draw_sheet(
+        seed,
+        false,
+        draw_actions(seed),
+        nodes,
+        &mut modes,
+        &mut bounds,
+        &mut sheet,
+    );
     unknown(&sheet, length, counts);
 }
 
@@ -82,7 +90,15 @@ fn wild(seed: usize, counts: &mut [u64]) {
     let mut sheet = room_for_sheet();
     let mut modes = room_for_types();
     let mut bounds = room_for_types();
-    let length = generate::draw_sheet(seed, true, draw_actions(seed), 4, &mut modes, &mut bounds, &mut sheet);
+    let length = generate::draw_sheet(
+        seed,
+        true,
+        draw_actions(seed),
+        4,
+        &mut modes,
+        &mut bounds,
+        &mut sheet,
+    );
     unknown(&sheet, length, counts);
 }
 
@@ -91,7 +107,15 @@ fn damaged(seed: usize, counts: &mut [u64]) {
     let mut sheet = room_for_sheet();
     let mut modes = room_for_types();
     let mut bounds = room_for_types();
-    let length = generate::draw_sheet(seed, false, draw_actions(seed), 6, &mut modes, &mut bounds, &mut sheet);
+    let length = generate::draw_sheet(
+        seed,
+        false,
+        draw_actions(seed),
+        6,
+        &mut modes,
+        &mut bounds,
+        &mut sheet,
+    );
     let new_length = generate::damage(seed, length, &mut sheet);
     unknown(&sheet, new_length, counts);
 }

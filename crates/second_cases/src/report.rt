@@ -4,19 +4,33 @@ ghost use lib.ListN.{length};
 
 // Slots of the counts. Refusal r is counted in REFUSED + r, a node of kind k in KINDS + k, a table of r rows in ROWS + r, up to 9.
 pub const SHEETS: usize = 0;
+
 pub const TABLES: usize = 1;
+
 pub const SEQUENCES: usize = 2;
+
 pub const DISAGREEMENTS: usize = 3;
+
 pub const ENTRIES: usize = 4;
+
 pub const ALL_ROWS: usize = 5;
+
 pub const NODES_FIRST: usize = 6;
+
 pub const JUNK: usize = 7;
+
 pub const UNUSED: usize = 8;
+
 pub const SHARED: usize = 9;
+
 pub const COMBINED: usize = 10;
+
 pub const BARE: usize = 11;
+
 pub const REFUSED: usize = 16;
+
 pub const ROWS: usize = 32;
+
 pub const KINDS: usize = 48;
 
 // Room for the counts.
@@ -80,6 +94,17 @@ fn show_numbered(counts: &[u64], base: usize, from: usize, to: usize) {
     }
 }
 
+// Writes how long the sequences are, for each number of actions.
+fn show_longest() {
+    io::write_all(1, b"\nlongest sequences, by actions");
+    let mut actions = 1;
+    while actions < 17 {
+        show_count(b" ", actions as u64);
+        show_count(b":", naive::longest(actions) as u64);
+        actions += 1;
+    }
+}
+
 // All refusals.
 fn refused(counts: &[u64]) -> u64 {
     std::num::wrapping_sub_u64(count_at(counts, SHEETS), count_at(counts, TABLES))
@@ -108,8 +133,12 @@ pub fn show(counts: &[u64]) {
     io::write_all(1, b", by number");
     show_numbered(counts, REFUSED, 1, 10);
     show_coverage(counts);
-    show_count(b"\ntables with all rows found by residual behaviour ", count_at(counts, ALL_ROWS));
+    show_count(
+        b"\ntables with all rows found by residual behaviour ",
+        count_at(counts, ALL_ROWS),
+    );
     show_count(b"\nentries compared ", count_at(counts, ENTRIES));
+    show_longest();
     show_count(b"\nsequences ", count_at(counts, SEQUENCES));
     show_count(b"\ndisagreements ", count_at(counts, DISAGREEMENTS));
     io::write_all(1, b"\n");

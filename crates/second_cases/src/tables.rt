@@ -24,7 +24,8 @@ pub fn accepted(bytes: &[u8], answer: Answer) -> bool {
             mode,
             actions,
             rows,
-        } => (mode_number(mode) == answer.mode) & ((actions == answer.actions) & (rows == answer.rows)),
+        } => (mode_number(mode) == answer.mode)
+            & ((actions == answer.actions) & (rows == answer.rows)),
         Loaded::Malformed => false,
         Loaded::NotCanonical => false,
     }
@@ -43,7 +44,14 @@ fn row_after(bytes: &[u8], actions: usize, reached: &[u8], s: usize) -> usize {
 }
 
 // Whether the table and the meaning of node n differ after s.
-fn verdict_differs(bytes: &[u8], answer: Answer, truths: &[u8], n: usize, reached: &mut [u8], s: usize) -> bool {
+fn verdict_differs(
+    bytes: &[u8],
+    answer: Answer,
+    truths: &[u8],
+    n: usize,
+    reached: &mut [u8],
+    s: usize,
+) -> bool {
     let row = row_after(bytes, answer.actions, reached, s);
     naive::put(reached, s, row);
     (row == 255) != naive::tripped(truths, n, answer.mode, s)
@@ -56,7 +64,14 @@ fn room_for_reached() -> [u8; 2048]
 }
 
 // Compares the verdicts after each sequence.
-fn compare_each(bytes: &[u8], answer: Answer, truths: &[u8], n: usize, reached: &mut [u8], counts: &mut [u64]) {
+fn compare_each(
+    bytes: &[u8],
+    answer: Answer,
+    truths: &[u8],
+    n: usize,
+    reached: &mut [u8],
+    counts: &mut [u64],
+) {
     let actions = answer.actions;
     let all = naive::numbers_to(naive::longest(actions), actions);
     let mut s = 0;
@@ -86,7 +101,10 @@ fn compare_entry(bytes: &[u8], answer: Answer, entries: &[u8], k: usize, counts:
     }
     let found = naive::at(entries, k);
     if found != UNKNOWN {
-        differ(counts, found != entry_at(bytes, answer.actions, row, action));
+        differ(
+            counts,
+            found != entry_at(bytes, answer.actions, row, action),
+        );
         add(counts, ENTRIES, 1);
     }
 }
@@ -102,7 +120,14 @@ fn compare_entries(bytes: &[u8], answer: Answer, entries: &[u8], counts: &mut [u
 
 // Compares the rows found by residual behaviour. There are never more than the table has. Where there are as many, every known entry is the
 // same. Where the table has R rows and sequences of 2 R - 1 actions are judged, there are as many and all entries are known.
-pub fn compare_rows(bytes: &[u8], answer: Answer, rows: usize, whole: bool, entries: &[u8], counts: &mut [u64]) {
+pub fn compare_rows(
+    bytes: &[u8],
+    answer: Answer,
+    rows: usize,
+    whole: bool,
+    entries: &[u8],
+    counts: &mut [u64],
+) {
     differ(counts, answer.rows < rows);
     let complete = whole & (answer.rows == rows);
     let short = 2 * (answer.rows % 256) <= naive::longest(answer.actions) + 1;
