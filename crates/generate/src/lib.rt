@@ -3,7 +3,7 @@ mod arithmetic;
 mod damages;
 mod draws;
 mod layout;
-mod nodes;
+mod drawing;
 mod sheets;
 
 pub use arithmetic::conjunction;

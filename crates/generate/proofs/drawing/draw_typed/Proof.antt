@@ -1,9 +1,9 @@
--- `generate::nodes::draw_typed` meets its contract. The measure is what is left to count.
+-- `generate::drawing::draw_typed` meets its contract. The measure is what is left to count.
 -- Assumes nothing.
 use Prim.Native.Nat.{_≤_, _-_}
 use borrow.Author.Needs.{needs}
-use Rattle.generate.proofs.nodes.draw_typed.Statement.{statement}
-use Rattle.generate.proofs.nodes.draw_typed.Tie as tie
+use Rattle.generate.proofs.drawing.draw_typed.Statement.{statement}
+use Rattle.generate.proofs.drawing.draw_typed.Tie as tie
 
 abbrev Inv-loop : tie.InvT-loop
 Inv-loop seed wanted n modes bounds i₀ i = i ≤ 400
