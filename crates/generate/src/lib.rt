@@ -1,9 +1,9 @@
 // Generated rule sheets, written into lent bytes: sound ones, damaged ones, and ones whose count of values and rows is known by arithmetic.
 mod arithmetic;
 mod damages;
+mod drawing;
 mod draws;
 mod layout;
-mod drawing;
 mod sheets;
 
 pub use arithmetic::conjunction;

@@ -1,11 +1,11 @@
 // Drawing whole sheets.
+use crate::drawing::draw_any;
+use crate::drawing::draw_kind;
+use crate::drawing::draw_typed;
 use crate::draws::draw;
 use crate::layout::Plan;
 use crate::layout::write_header;
 use crate::layout::write_node;
-use crate::drawing::draw_any;
-use crate::drawing::draw_kind;
-use crate::drawing::draw_typed;
 use naive::Fields;
 use naive::put;
 use naive::put_number;
