@@ -1,0 +1,49 @@
+-- `generate::sheets::write_actions` meets its contract. The measure is what is left to count.
+-- Assumes nothing.
+use mathlib.Core.Path.{_≡_}
+use Prim.Native.Nat.{_≤_, _-_}
+use borrow.Author.Needs.{needs}
+use lib.ListN.{length}
+use Rattle.generate.proofs.sheets.write_actions.Statement.{statement}
+use Rattle.generate.proofs.sheets.write_actions.Tie as tie
+
+abbrev Inv-loop : tie.InvT-loop
+Inv-loop seed from actions out₀ i₀ out i = (i ≤ actions) × (length out ≡ length out₀)
+
+abbrev μ-loop : tie.MeasureT-loop
+μ-loop seed from actions out₀ i₀ out i = actions - i
+
+loop-holds : tie.Need-loop-holds Inv-loop μ-loop
+loop-holds c = search needs
+
+write-action-requires : tie.Need-write-action-requires Inv-loop μ-loop
+write-action-requires c κs = search needs
+
+add-i : tie.Need-add-i Inv-loop μ-loop
+add-i c = search needs
+
+loop-less : tie.Need-loop-less Inv-loop μ-loop
+loop-less c = search needs
+
+loop-again : tie.Need-loop-again Inv-loop μ-loop
+loop-again c = search needs
+
+same-length : tie.Need-same-length Inv-loop μ-loop
+same-length c = search needs
+
+returns : tie.Need-returns Inv-loop μ-loop
+returns c = search needs
+
+pub write-actions-spec : {M : Type 1} → statement M
+write-actions-spec =
+    tie.close
+    (tie.spec
+    Inv-loop
+    μ-loop
+    loop-holds
+    write-action-requires
+    add-i
+    loop-less
+    loop-again
+    same-length
+    returns)

@@ -1,0 +1,176 @@
+// Checks 4 to 7 of one node.
+use crate::Fields;
+use crate::Type;
+use crate::UNBOUNDED;
+ghost use Prim.Native.Nat.{_<_, _≤_};
+
+// How many parts a kind has; 4 for an unknown kind.
+pub fn parts_of(kind: usize) -> usize
+    ensures { λ r. ⌜ r < 5 ⌝ }
+{
+    match kind {
+        1 | 2 | 3 | 12 => 0,
+        4 | 10 | 11 | 13 | 16 | 17 => 1,
+        5 | 6 | 14 | 15 | 18 | 19 | 20 | 21 | 23 => 2,
+        22 => 3,
+        _ => 4,
+    }
+}
+
+// Whether an argument is in the range of its kind.
+fn argument_fits(kind: usize, argument: usize) -> bool {
+    match kind {
+        3 => argument < 16,
+        12 | 22 => (0 < argument) & (argument < 61),
+        _ => argument == 0,
+    }
+}
+
+// Whether a part is lower than the node n, or 0 where the kind does not use it.
+fn part_fits(used: bool, part: usize, n: usize) -> bool {
+    if used { part < n } else { part == 0 }
+}
+
+// Check 4 and check 5: 0, 4 or 5.
+fn check_fields(node: Fields, n: usize) -> usize
+    ensures { λ r. ⌜ r < 6 ⌝ }
+{
+    let parts = parts_of(node.kind);
+    if 3 < parts {
+        return 4;
+    }
+    if !argument_fits(node.kind, node.argument) {
+        return 5;
+    }
+    if !part_fits(0 < parts, node.a, n) {
+        return 5;
+    }
+    if !part_fits(1 < parts, node.b, n) {
+        return 5;
+    }
+    if !part_fits(2 < parts, node.c, n) {
+        return 5;
+    }
+    0
+}
+
+// A number of a list, or 0 past its end.
+fn item(list: &[usize], i: usize) -> usize {
+    if i < list.len() { list[i] } else { 0 }
+}
+
+// The bound of a part, at most UNBOUNDED.
+fn bound_at(bounds: &[usize], i: usize) -> usize
+    ensures { λ r. ⌜ r ≤ 1000000 ⌝ }
+{
+    let bound = item(bounds, i);
+    if bound < UNBOUNDED { bound } else { UNBOUNDED }
+}
+
+// The larger of two bounds.
+fn larger(k: usize, l: usize) -> usize {
+    if k < l { l } else { k }
+}
+
+// The sum of two bounds.
+fn sum(k: usize, l: usize) -> usize {
+    if UNBOUNDED <= k {
+        return UNBOUNDED;
+    }
+    if UNBOUNDED <= l {
+        return UNBOUNDED;
+    }
+    k + l
+}
+
+// Whether the parts of a node have the modes that its kind asks.
+fn modes_fit(kind: usize, a: usize, b: usize, c: usize) -> bool {
+    match kind {
+        1 | 2 | 3 | 12 => true,
+        4 | 10 | 11 => a == 0,
+        5 | 6 => (a == 0) & (b == 0),
+        13 => 0 < a,
+        14 | 15 => (0 < a) & (a == b),
+        16 => a == 2,
+        17 => a == 1,
+        18 | 20 => (a == 2) & (b == 2),
+        19 | 21 => (a == 2) & (b == 1),
+        22 => (a == 2) & ((b == 1) & (c == 1)),
+        23 => (a == 0) & (0 < b),
+        _ => false,
+    }
+}
+
+// The mode of a node whose parts fit.
+fn mode_of(kind: usize, a: usize, b: usize) -> usize {
+    match kind {
+        10 | 12 | 16 | 18 | 20 => 2,
+        11 | 17 | 19 | 21 | 22 => 1,
+        13 => { if a == 1 { 2 } else { 1 } }
+        14 | 15 => a,
+        23 => b,
+        _ => 0,
+    }
+}
+
+// The bound of a node from those of its parts.
+fn bound_of(kind: usize, argument: usize, a: usize, b: usize, c: usize) -> usize {
+    match kind {
+        10 | 11 => 1,
+        12 => argument,
+        13 => a,
+        14 | 15 => larger(a, b),
+        18 | 19 => b,
+        20 | 21 => sum(a, b),
+        22 => sum(argument, larger(b, c)),
+        16 | 17 | 23 => UNBOUNDED,
+        _ => 0,
+    }
+}
+
+// Check 7: whether a bound is finite and above 65,534.
+fn too_long(bound: usize) -> bool {
+    (65534 < bound) & (bound < UNBOUNDED)
+}
+
+// A refusal of one node.
+fn refused(number: usize) -> Type {
+    Type {
+        number,
+        mode: 0,
+        bound: 0,
+    }
+}
+
+// The type of node n, from the modes and bounds of the nodes before it, or the first refusal of 4 to 7.
+pub fn type_of(node: Fields, n: usize, modes: &[usize], bounds: &[usize]) -> Type {
+    let wrong = check_fields(node, n);
+    if 0 < wrong {
+        return refused(wrong);
+    }
+    let a = item(modes, node.a);
+    let b = item(modes, node.b);
+    let c = item(modes, node.c);
+    if !modes_fit(node.kind, a, b, c) {
+        return refused(6);
+    }
+    let bound_a = bound_at(bounds, node.a);
+    if (node.kind == 22) & (bound_a != node.argument) {
+        return refused(6);
+    }
+    let bound = bound_of(
+        node.kind,
+        node.argument,
+        bound_a,
+        bound_at(bounds, node.b),
+        bound_at(bounds, node.c),
+    );
+    if too_long(bound) {
+        return refused(7);
+    }
+    Type {
+        number: 0,
+        mode: mode_of(node.kind, a, b),
+        bound,
+    }
+}
