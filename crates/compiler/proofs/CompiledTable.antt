@@ -19,9 +19,9 @@ use Rattle.sheet.specs.Sheet.{actionCount, nodeCount, propositionsOf}
 use Rattle.sheet.specs.Meaning.{sheetPolicy}
 use Rattle.sheet.specs.declared.TypedNode.{TypedNode}
 use Rattle.lower.specs.Nodes.{Tables, tripsNode}
-use Rattle.nodes.specs.Limits.{Built}
-use Rattle.nodes.specs.Compiles.{table, tableBytes, PolicyNode, Compiles, compiled}
-use Rattle.nodes.specs.SheetFacts.{SheetFacts, FactsOf}
+use Rattle.node_rows.specs.Limits.{Built}
+use Rattle.node_rows.specs.Compiles.{table, tableBytes, PolicyNode, Compiles, compiled}
+use Rattle.node_rows.specs.SheetFacts.{SheetFacts, FactsOf}
 use Rattle.compiler.proofs.TableBytes.{Laid, laid, accepted-bytes}
 
 mode-low : (mode : Mode) → 1 ≤ modeNumber mode

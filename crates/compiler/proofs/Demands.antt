@@ -16,11 +16,11 @@ use Rattle.sheet.specs.Sheet.{actionCount, nodeCount, propositionsOf}
 use Rattle.sheet.specs.Meaning.{sheetPolicy}
 use Rattle.sheet.specs.declared.TypedNode.{TypedNode}
 use Rattle.lower.specs.Nodes.{Tables}
-use Rattle.nodes.specs.Limits.{OverValues, OverRows, Built}
-use Rattle.nodes.specs.Compiles.{Answer, table, tableBytes, SoundSheet, PolicyNode, BuiltBefore, Compiles, faulted, over-values, over-rows, compiled}
-use Rattle.nodes.specs.SheetFacts.{SheetFacts, FactsOf}
+use Rattle.node_rows.specs.Limits.{OverValues, OverRows, Built}
+use Rattle.node_rows.specs.Compiles.{Answer, table, tableBytes, SoundSheet, PolicyNode, BuiltBefore, Compiles, faulted, over-values, over-rows, compiled}
+use Rattle.node_rows.specs.SheetFacts.{SheetFacts, FactsOf}
 use Rattle.compiler.specs.Demands.{GetsTable, InsideLimits, NoneOver, NoRefusal, IsTable, OneActionList, SameSatisfied}
-use Rattle.nodes.proofs.Unique.{few-rows-suffice, over-values-same}
+use Rattle.node_rows.proofs.Unique.{few-rows-suffice, over-values-same}
 use Rattle.compiler.proofs.Outcome.{same-types, not-faulty, tables-agree}
 use Rattle.compiler.proofs.CompiledTable.{TableOf, compiled-table}
 

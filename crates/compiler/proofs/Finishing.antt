@@ -25,12 +25,12 @@ use Rattle.sheet.proofs.Sound.{sound-sheet}
 use Rattle.sheet.proofs.Header.{laid}
 use Rattle.lower.specs.Nodes.{NodeRows}
 use Rattle.lower.proofs.NodeTypes.{not-policy}
-use Rattle.nodes.specs.Limits.{Built}
-use Rattle.nodes.specs.Compiles.{Answer, table, refused, tableBytes, SoundSheet, PolicyNode, Compiles, faulted, compiled}
-use Rattle.nodes.specs.Building.{typesOf, Progress}
-use Rattle.nodes.proofs.Settling.{well}
+use Rattle.node_rows.specs.Limits.{Built}
+use Rattle.node_rows.specs.Compiles.{Answer, table, refused, tableBytes, SoundSheet, PolicyNode, Compiles, faulted, compiled}
+use Rattle.node_rows.specs.Building.{typesOf, Progress}
+use Rattle.node_rows.proofs.Settling.{well}
 use Rattle.compiler.specs.Calling.{CompilesTo}
-use Rattle.nodes.proofs.WorkSlots.{slot-front}
+use Rattle.node_rows.proofs.WorkSlots.{slot-front}
 
 -- a refusal leaves the output as it was
 pub refuses : {bytes : List ℕ} {valueLimit rowLimit : ℕ} {answer : Answer} → Compiles bytes valueLimit rowLimit answer [] → (out : List ℕ)

@@ -12,10 +12,10 @@ use Rattle.sheet.specs.Judge.{faulty, judge, numberOf, spotOf}
 use Rattle.sheet.specs.declared.TypedNode.{TypedNode}
 use Rattle.sheet.specs.declared.Fault.{Fault}
 use Rattle.lower.specs.Nodes.{Tables}
-use Rattle.nodes.specs.Limits.{OverValues, OverRows, Built}
-use Rattle.nodes.specs.Compiles.{Answer, table, refused, tableBytes, SoundSheet, PolicyNode, BuiltBefore, Compiles, faulted, over-values, over-rows, compiled}
-use Rattle.nodes.specs.SheetFacts.{SheetFacts, FactsOf}
-use Rattle.nodes.proofs.Unique.{rows-unique, few-rows-suffice, AgreeBefore, over-values-same}
+use Rattle.node_rows.specs.Limits.{OverValues, OverRows, Built}
+use Rattle.node_rows.specs.Compiles.{Answer, table, refused, tableBytes, SoundSheet, PolicyNode, BuiltBefore, Compiles, faulted, over-values, over-rows, compiled}
+use Rattle.node_rows.specs.SheetFacts.{SheetFacts, FactsOf}
+use Rattle.node_rows.proofs.Unique.{rows-unique, few-rows-suffice, AgreeBefore, over-values-same}
 
 -- the checks 1 to 7 of a sheet have one outcome
 pub same-types : {bytes : List ℕ} {types other : List TypedNode} → SoundSheet bytes types → SoundSheet bytes other → types ≡ other

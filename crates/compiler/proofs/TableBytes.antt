@@ -6,7 +6,7 @@ use Prim.Native.Nat.{ℕ, _+_, _*_, _≤_, _<_}
 use native.Mathlib.Omega.{arith}
 use lib.ListN.{length, getD}
 use Rattle.table.specs.Table.{typeOf, actionsOf, rowsOf, offsetOf, entriesOf, EntryFits, HeaderFits, RowsFit, CanonicalRows, Accepted}
-use Rattle.nodes.specs.Compiles.{tableBytes}
+use Rattle.node_rows.specs.Compiles.{tableBytes}
 
 -- A table's bytes taken apart.
 pub record Laid (bytes : List ℕ) (type actions rows : ℕ) (entries : List ℕ) : Type 0 where

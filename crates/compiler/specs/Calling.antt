@@ -6,7 +6,7 @@ use Prim.Native.Nat.{ℕ, _≤_}
 use lib.ListN.{length, drop, replicate}
 use Rattle.table.specs.Answer.{modeNumber}
 use Rattle.sheet.specs.Judge.{numberOf, spotOf}
-use Rattle.nodes.specs.Compiles.{Answer, table, refused, Compiles}
+use Rattle.node_rows.specs.Compiles.{Answer, table, refused, Compiles}
 use Rattle.compiler.specs.declared.Compiled.{Compiled}
 use Rattle.compiler.specs.declared.Compiled.the-variants.{Table, ShortArea, Faulty, TooManyValues, TooManyRows}
 

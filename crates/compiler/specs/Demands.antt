@@ -10,8 +10,8 @@ use Rattle.sheet.specs.Sheet.{actionCount, nodeCount, propositionsOf}
 use Rattle.sheet.specs.Meaning.{sheetPolicy}
 use Rattle.sheet.specs.declared.TypedNode.{TypedNode}
 use Rattle.lower.specs.Nodes.{Tables}
-use Rattle.nodes.specs.Limits.{OverValues, OverRows}
-use Rattle.nodes.specs.Compiles.{Answer, table, refused, SoundSheet, PolicyNode, BuiltBefore, Compiles}
+use Rattle.node_rows.specs.Limits.{OverValues, OverRows}
+use Rattle.node_rows.specs.Compiles.{Answer, table, refused, SoundSheet, PolicyNode, BuiltBefore, Compiles}
 
 -- A sheet is compiled: it gets a table.
 pub record GetsTable (bytes : List ℕ) (valueLimit rowLimit : ℕ) : Type 0 where

@@ -1,14 +1,14 @@
 // The public call.
 use crate::Compiled;
 use crate::output::write_table;
-use nodes::AllBuilt;
+use node_rows::AllBuilt;
 use sheet::Judged;
 use sheet::Layout;
 use sheet::NodeType;
 ghost use mathlib.Core.Path.{_≡_};
 ghost use Prim.Native.Nat.{_≤_};
 ghost use lib.ListN.{length};
-ghost use Rattle.nodes.specs.Building.{LimitsFit, Fresh};
+ghost use Rattle.node_rows.specs.Building.{LimitsFit, Fresh};
 ghost use Rattle.compiler.specs.Calling.{answerOf, Zeroed, CompilesTo, CompilesInto};
 
 // Compiles a sheet with any limits. The work area holds 255 everywhere.
@@ -41,7 +41,7 @@ fn compile_with(
     else {
         return Compiled::ShortArea;
     };
-    let built = nodes::build_sheet(
+    let built = node_rows::build_sheet(
         sheet,
         actions,
         nodes,

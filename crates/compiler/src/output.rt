@@ -5,7 +5,7 @@ ghost use mathlib.Core.List.{_++_};
 ghost use Prim.Native.Nat.{_+_, _≤_};
 ghost use lib.ListN.{length, drop};
 ghost use Rattle.table.specs.Answer.{modeNumber};
-ghost use Rattle.nodes.specs.Compiles.{tableBytes};
+ghost use Rattle.node_rows.specs.Compiles.{tableBytes};
 
 // The number of a mode in a table's header.
 fn type_number(mode: Mode) -> u8

@@ -21,9 +21,9 @@ use Rattle.sheet.specs.declared.TypedNode.{TypedNode}
 use Rattle.sheet.specs.declared.TypeFound.{TypeFound}
 use Rattle.sheet.specs.declared.TypeFound.the-variants.{Fits, Unfit, TooLong}
 use Rattle.sheet.proofs.Header.{nodes-laid}
-use Rattle.nodes.specs.Compiles.{Answer, table, refused, Compiles, faulted, over-values, over-rows, compiled}
+use Rattle.node_rows.specs.Compiles.{Answer, table, refused, Compiles, faulted, over-values, over-rows, compiled}
 use Rattle.compiler.specs.Calling.{CompilesInto, short, compiles}
-use Rattle.nodes.proofs.Facts.{facts-of}
+use Rattle.node_rows.proofs.Facts.{facts-of}
 use Rattle.compiler.proofs.CompiledTable.{compiled-table}
 use Rattle.lemondarts.specs.Numbers.{pack}
 use Rattle.lemondarts.specs.Compiling.{packedCompiled}

@@ -3,7 +3,7 @@
 use mathlib.Core.Path.{_≡_}
 use mathlib.Core.List.{List}
 use Prim.Native.Nat.{ℕ}
-use Rattle.nodes.specs.Compiles.{Answer, table, refused}
+use Rattle.node_rows.specs.Compiles.{Answer, table, refused}
 use Rattle.compiler.specs.Calling.{CompilesInto}
 use Rattle.lemondarts.specs.Numbers.{pack}
 

@@ -10,9 +10,9 @@ use lib.Seq.{take-append-le, drop-append-le}
 use Rattle.trace.specs.declared.Mode.{Mode}
 use Rattle.table.specs.Answer.{modeNumber}
 use Rattle.table.specs.Table.{entriesOf}
-use Rattle.nodes.specs.Compiles.{Answer, table, refused, Compiles, faulted, over-values, over-rows}
+use Rattle.node_rows.specs.Compiles.{Answer, table, refused, Compiles, faulted, over-values, over-rows}
 use Rattle.compiler.specs.Calling.{Areas, CompilesInto, short, compiles}
-use Rattle.nodes.proofs.Facts.{facts-of}
+use Rattle.node_rows.proofs.Facts.{facts-of}
 use Rattle.compiler.proofs.CompiledTable.{TableOf, compiled-table}
 use Rattle.printing.specs.Text.{modeWord, counts, rowLine, rowLines, tableText, refusalText}
 use Rattle.printing.specs.declared.Printed.{Printed}

@@ -5,7 +5,7 @@ use Prim.Native.Nat.{ℕ}
 use Rattle.trace.specs.declared.Mode.{Mode}
 use Rattle.table.specs.Answer.{modeNumber}
 use Rattle.table.specs.Table.{entriesOf}
-use Rattle.nodes.specs.Compiles.{Answer, table, refused, Compiles}
+use Rattle.node_rows.specs.Compiles.{Answer, table, refused, Compiles}
 use Rattle.printing.specs.Text.{tableText, refusalText}
 use Rattle.printing.specs.declared.Printed.{Printed}
 use Rattle.printing.specs.Printing.{Gives, PrintsTable, PrintsRefusal}

@@ -14,7 +14,7 @@ use Rattle.policy.specs.Policy.{satisfies}
 use Rattle.table.specs.Table.{actionsOf, verdict}
 use Rattle.sheet.specs.Sheet.{actionCount, propositionsOf}
 use Rattle.sheet.specs.Meaning.{sheetPolicy}
-use Rattle.nodes.proofs.Facts.{facts-of}
+use Rattle.node_rows.proofs.Facts.{facts-of}
 use Rattle.compiler.proofs.CompiledTable.{compiled-table}
 use Rattle.board.specs.Calls.{Reply, Acts}
 use Rattle.board.specs.Places.{caseAt, tableAt}

@@ -8,7 +8,7 @@ use Rattle.policy.specs.Policy.{satisfies}
 use Rattle.table.specs.Table.{typeOf}
 use Rattle.sheet.specs.Sheet.{propositionsOf}
 use Rattle.sheet.specs.Meaning.{sheetPolicy}
-use Rattle.nodes.specs.Compiles.{Compiles, table}
+use Rattle.node_rows.specs.Compiles.{Compiles, table}
 use Rattle.board.specs.History.{Event, onPlace, rule}
 
 -- A table is compiled from a sheet, under limits of at most 64 rows.

@@ -12,10 +12,10 @@ use Rattle.sheet.specs.Plain.{WellLaid}
 use Rattle.sheet.specs.declared.TypedNode.{TypedNode}
 use Rattle.sheet.specs.declared.NodeType.the-variants.{Policy}
 use Rattle.sheet.proofs.Header.{from-laid}
-use Rattle.nodes.specs.Compiles.{SoundSheet}
-use Rattle.nodes.specs.Building.{typesOf, Progress, Finishes}
-use Rattle.nodes.specs.declared.AllBuilt.{AllBuilt}
-use Rattle.nodes.proofs.Settling.{not-misplaced}
+use Rattle.node_rows.specs.Compiles.{SoundSheet}
+use Rattle.node_rows.specs.Building.{typesOf, Progress, Finishes}
+use Rattle.node_rows.specs.declared.AllBuilt.{AllBuilt}
+use Rattle.node_rows.proofs.Settling.{not-misplaced}
 use Rattle.compiler.proofs.Finishing.{refuses, is-faulty, is-sound, last-is-policy, few, size-small, part-inside, part-fits, writes-part}
 use borrow.Author.Needs.{needs}
 use Rattle.compiler.proofs.call.compile_with.Statement.{statement}

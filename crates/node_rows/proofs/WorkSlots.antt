@@ -9,7 +9,7 @@ use lib.ListN.{length, getD, take, drop, replicate, length-take, length-drop, le
 use borrow.Rule.Slice.PartMut.{midOf, putMid, post-is}
 use lib.Seq.{getD-take, getD-drop, getD-append-add, length-take-le, ext-getD}
 use Rattle.rules.specs.Rules.{slotAt}
-use Rattle.nodes.specs.Building.{SlotWritten}
+use Rattle.node_rows.specs.Building.{SlotWritten}
 
 -- an entry of a slot is a byte of the work area, and past its 1,024 bytes a slot has none
 slot-byte : (work : List ℕ) (i k : ℕ) → k < 1024 → getD (slotAt work i) k 255 ≡ getD work (i * 1024 + k) 255

@@ -6,10 +6,10 @@ use Rattle.sheet.specs.Node.{nodeOf}
 use Rattle.sheet.specs.Types.{typeAt}
 use Rattle.sheet.specs.declared.NodeRead.{NodeRead}
 use Rattle.sheet.proofs.Outcomes.{node-at}
-use Rattle.nodes.specs.Building.{loweredRead}
+use Rattle.node_rows.specs.Building.{loweredRead}
 use borrow.Author.Needs.{needs}
-use Rattle.nodes.proofs.each.rule_of.Statement.{statement}
-use Rattle.nodes.proofs.each.rule_of.Tie as tie
+use Rattle.node_rows.proofs.each.rule_of.Statement.{statement}
+use Rattle.node_rows.proofs.each.rule_of.Tie as tie
 
 module _ (c : tie.After-read-node) where
   abbrev start : tie.Start

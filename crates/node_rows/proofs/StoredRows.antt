@@ -13,8 +13,8 @@ use Rattle.explore.specs.Explored.{OverReached}
 use Rattle.build.specs.Builds.{BuildsTo, OverStates, Written}
 use Rattle.build.specs.declared.NodeBuilt.{NodeBuilt}
 use Rattle.build.specs.declared.NodeBuilt.the-variants.{Rows, TooManyValues, TooManyRows}
-use Rattle.nodes.specs.Building.{RowsInSlot}
-use Rattle.nodes.proofs.WorkSlots.{stored-slot}
+use Rattle.node_rows.specs.Building.{RowsInSlot}
+use Rattle.node_rows.proofs.WorkSlots.{stored-slot}
 
 module _ (actions : ℕ) (step : Step ℕ) (start valueLimit rowLimit : ℕ) (built : NodeBuilt) (before behind : List ℕ)
     (builds : BuildsTo actions step start valueLimit rowLimit built before behind) where

@@ -22,12 +22,12 @@ use Rattle.sheet.specs.Sheet.{actionCount, nodeCount, propositionsOf}
 use Rattle.sheet.specs.Meaning.{nodePolicy}
 use Rattle.sheet.specs.declared.TypedNode.{TypedNode}
 use Rattle.lower.specs.Nodes.{tripsNode, nodeRule, Tables, partOf, ruleOn, rememberedAt, NodeRows}
-use Rattle.nodes.specs.Limits.{Built}
-use Rattle.nodes.specs.Compiles.{PolicyNode, BuiltBefore}
-use Rattle.nodes.specs.SheetFacts.{EarlierPolicy, NodeFacts, SheetFacts}
-use Rattle.nodes.proofs.RuleParts.{all-map, all-onto, count-positive}
+use Rattle.node_rows.specs.Limits.{Built}
+use Rattle.node_rows.specs.Compiles.{PolicyNode, BuiltBefore}
+use Rattle.node_rows.specs.SheetFacts.{EarlierPolicy, NodeFacts, SheetFacts}
+use Rattle.node_rows.proofs.RuleParts.{all-map, all-onto, count-positive}
 use Rattle.policy.proofs.Parts.{positive-on, on-parts-compose}
-use Rattle.nodes.proofs.PartRows.{rows-closed}
+use Rattle.node_rows.proofs.PartRows.{rows-closed}
 
 -- Node i has its rows, at most 64 of them.
 pub record RowsAt (bytes : List ℕ) (tables : Tables) (i : ℕ) : Type 0 where

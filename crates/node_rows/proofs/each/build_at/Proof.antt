@@ -10,10 +10,10 @@ use borrow.Rule.Slice.PartMut.{mid-len}
 use Rattle.trace.specs.Trace.{Step}
 use Rattle.rules.specs.Steps.{codeStep, codeStart}
 use Rattle.build.specs.Builds.{BuildsTo}
-use Rattle.nodes.proofs.StoredRows.{built-over, built-many, few-entries, entries-room, rows-in-slot}
+use Rattle.node_rows.proofs.StoredRows.{built-over, built-many, few-entries, entries-room, rows-in-slot}
 use borrow.Author.Needs.{needs}
-use Rattle.nodes.proofs.each.build_at.Statement.{statement}
-use Rattle.nodes.proofs.each.build_at.Tie as tie
+use Rattle.node_rows.proofs.each.build_at.Statement.{statement}
+use Rattle.node_rows.proofs.each.build_at.Tie as tie
 
 -- what building answered
 module _ (c : tie.After-build-node) where

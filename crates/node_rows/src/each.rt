@@ -14,7 +14,7 @@ ghost use lib.ListN.{getD};
 ghost use Rattle.sheet.specs.Node.{nodeOf};
 ghost use Rattle.sheet.specs.Types.{typeAt};
 ghost use Rattle.lower.specs.Lowering.{FieldsLaid};
-ghost use Rattle.nodes.specs.Building.{BuildsAt, loweredRead, LimitsFit, Rooms, Prepared, Begun, Advances, Finishes, typesOf};
+ghost use Rattle.node_rows.specs.Building.{BuildsAt, loweredRead, LimitsFit, Rooms, Prepared, Begun, Advances, Finishes, typesOf};
 
 // Builds the rows of a rule and writes them to the slot of node n. The lists are scratch.
 fn build_at(

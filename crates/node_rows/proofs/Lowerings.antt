@@ -27,9 +27,9 @@ use Rattle.lower.specs.Lowering.{setsOf, lowered, SameRule, FieldsLaid}
 use Rattle.lower.specs.declared.Lowered.{Lowered}
 use Rattle.lower.specs.declared.Lowered.the-variants.{AsRule, AsFormula}
 use Rattle.lower.proofs.LoweredRight.{lowered-local, lowered-formula, lowered-policy, lowered-right}
-use Rattle.nodes.specs.Compiles.{PolicyNode}
-use Rattle.nodes.specs.Building.{loweredRead, typesOf, BuildsAt, LimitsFit, Rooms, Prepared, Progress, Begun, Advances}
-use Rattle.nodes.proofs.Progressing.{passes, steppable, answers}
+use Rattle.node_rows.specs.Compiles.{PolicyNode}
+use Rattle.node_rows.specs.Building.{loweredRead, typesOf, BuildsAt, LimitsFit, Rooms, Prepared, Progress, Begun, Advances}
+use Rattle.node_rows.proofs.Progressing.{passes, steppable, answers}
 
 -- a rule is no formula
 not-both-lowered : {X : Type 0} {r : Rule} → AsRule r ≡ AsFormula → X

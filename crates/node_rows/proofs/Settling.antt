@@ -15,8 +15,8 @@ use Rattle.sheet.proofs.Sound.{sound-sheet}
 use Rattle.sheet.proofs.Header.{laid, nodes-laid}
 use Rattle.lower.specs.Lowering.{Settable, setsOf}
 use Rattle.lower.proofs.FormulaSets.{length-sets}
-use Rattle.nodes.specs.Compiles.{SoundSheet}
-use Rattle.nodes.specs.Building.{typesOf, Prepared}
+use Rattle.node_rows.specs.Compiles.{SoundSheet}
+use Rattle.node_rows.specs.Building.{typesOf, Prepared}
 
 -- a sound sheet's areas are in place
 module _ (bytes : List ℕ) (types : List TypedNode) (sheet : SoundSheet bytes types) where

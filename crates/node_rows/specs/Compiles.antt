@@ -13,7 +13,7 @@ use Rattle.sheet.specs.declared.TypedNode.{TypedNode}
 use Rattle.sheet.specs.declared.Fault.{Fault}
 use Rattle.sheet.specs.declared.NodeType.the-variants.{Policy}
 use Rattle.lower.specs.Nodes.{Tables}
-use Rattle.nodes.specs.Limits.{OverValues, OverRows, Built}
+use Rattle.node_rows.specs.Limits.{OverValues, OverRows, Built}
 
 -- An answer in document 01's terms: a table's type, actions and rows, or a refusal's number and spot.
 pub data Answer : Type 0 where

@@ -7,12 +7,12 @@ use native.Mathlib.Omega.{arith}
 use lib.ListN.{length}
 use Rattle.sheet.specs.Sheet.{nodeCount, nodesAt}
 use Rattle.lower.specs.Lowering.{FieldsLaid}
-use Rattle.nodes.proofs.Lowerings.{fields-laid, few-nodes}
-use Rattle.nodes.proofs.Progressing.{unbuilt, finishes-values, finishes-rows, goes-on}
-use Rattle.nodes.specs.Building.{typesOf, LimitsFit, Rooms, Prepared, Progress, Begun, Advances}
+use Rattle.node_rows.proofs.Lowerings.{fields-laid, few-nodes}
+use Rattle.node_rows.proofs.Progressing.{unbuilt, finishes-values, finishes-rows, goes-on}
+use Rattle.node_rows.specs.Building.{typesOf, LimitsFit, Rooms, Prepared, Progress, Begun, Advances}
 use borrow.Author.Needs.{needs}
-use Rattle.nodes.proofs.each.build_all.Statement.{statement}
-use Rattle.nodes.proofs.each.build_all.Tie as tie
+use Rattle.node_rows.proofs.each.build_all.Statement.{statement}
+use Rattle.node_rows.proofs.each.build_all.Tie as tie
 
 -- lists that keep their lengths
 abbrev Kept : (work values next classes other firsts rows work₀ values₀ next₀ classes₀ other₀ firsts₀ rows₀ : List ℕ) → Type 0

@@ -12,8 +12,8 @@ use Rattle.sheet.specs.declared.TypedNode.{TypedNode}
 use Rattle.sheet.specs.declared.NodeType.the-variants.{Policy}
 use Rattle.sheet.proofs.Sound.{sound-sheet}
 use Rattle.lower.proofs.Facts.{node-type, node-rule, node-parts, count-fits}
-use Rattle.nodes.specs.Compiles.{SoundSheet, PolicyNode}
-use Rattle.nodes.specs.SheetFacts.{EarlierPolicy, NodeFacts, SheetFacts, FactsOf}
+use Rattle.node_rows.specs.Compiles.{SoundSheet, PolicyNode}
+use Rattle.node_rows.specs.SheetFacts.{EarlierPolicy, NodeFacts, SheetFacts, FactsOf}
 
 module _ (bytes : List ℕ) (types : List TypedNode) (sheet : plain.SoundSheet bytes types) where
   module _ (n : ℕ) (below : n < nodeCount bytes) where

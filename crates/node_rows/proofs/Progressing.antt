@@ -24,17 +24,17 @@ use Rattle.build.specs.declared.NodeBuilt.{NodeBuilt}
 use Rattle.build.specs.declared.NodeBuilt.the-variants.{Rows, TooManyValues, TooManyRows}
 use Rattle.lower.specs.Nodes.{Tables, partOf, nodeRule, NodeRows}
 use Rattle.lower.specs.Lowering.{SameRule}
-use Rattle.nodes.specs.Limits.{Built, OverValues}
-use Rattle.nodes.specs.Compiles.{Compiles, refused, SoundSheet, PolicyNode, over-values, over-rows}
-use Rattle.nodes.specs.SheetFacts.{EarlierPolicy, SheetFacts}
-use Rattle.nodes.specs.Building.{LimitsFit, RowsInSlot, BuildsAt, Progress, Advances, Fresh}
-use Rattle.nodes.proofs.RuleParts.{all-map}
-use Rattle.nodes.proofs.NodeTheory.{RowsBefore, RowsAt, built-rows}
-use Rattle.nodes.proofs.NodeCodes as codes
-use Rattle.nodes.proofs.PartRows.{entry-below}
-use Rattle.nodes.proofs.Unique.{AgreeBefore, over-values-same}
-use Rattle.nodes.proofs.Facts.{facts-of}
-use Rattle.nodes.proofs.WorkSlots.{fresh-slot}
+use Rattle.node_rows.specs.Limits.{Built, OverValues}
+use Rattle.node_rows.specs.Compiles.{Compiles, refused, SoundSheet, PolicyNode, over-values, over-rows}
+use Rattle.node_rows.specs.SheetFacts.{EarlierPolicy, SheetFacts}
+use Rattle.node_rows.specs.Building.{LimitsFit, RowsInSlot, BuildsAt, Progress, Advances, Fresh}
+use Rattle.node_rows.proofs.RuleParts.{all-map}
+use Rattle.node_rows.proofs.NodeTheory.{RowsBefore, RowsAt, built-rows}
+use Rattle.node_rows.proofs.NodeCodes as codes
+use Rattle.node_rows.proofs.PartRows.{entry-below}
+use Rattle.node_rows.proofs.Unique.{AgreeBefore, over-values-same}
+use Rattle.node_rows.proofs.Facts.{facts-of}
+use Rattle.node_rows.proofs.WorkSlots.{fresh-slot}
 
 -- before the first node
 pub begins : (bytes : List ℕ) (types : List TypedNode) (valueLimit rowLimit : ℕ) (work : List ℕ) → Fresh work

@@ -26,12 +26,12 @@ use Rattle.explore.specs.Explored.{Reached, OverReached}
 use Rattle.build.specs.Builds.{OverStates, RowsFor}
 use Rattle.lower.specs.Nodes.{Tables, partOf, nodeRule, ruleOn, rememberedAt, tripsNode, NodeRows}
 use Rattle.lower.specs.Lowering.{SameRule, opens, filters, equal}
-use Rattle.nodes.specs.Compiles.{PolicyNode}
-use Rattle.nodes.specs.Limits.{SameRow, Many, OverValues, OverRows}
-use Rattle.nodes.specs.SheetFacts.{SheetFacts}
-use Rattle.nodes.proofs.RuleParts.{on-parts-agree}
-use Rattle.nodes.proofs.NodeTheory.{RowsBefore, node-sound, node-trips, node-run}
-use Rattle.nodes.proofs.Link.{same-codes}
+use Rattle.node_rows.specs.Compiles.{PolicyNode}
+use Rattle.node_rows.specs.Limits.{SameRow, Many, OverValues, OverRows}
+use Rattle.node_rows.specs.SheetFacts.{SheetFacts}
+use Rattle.node_rows.proofs.RuleParts.{on-parts-agree}
+use Rattle.node_rows.proofs.NodeTheory.{RowsBefore, node-sound, node-trips, node-run}
+use Rattle.node_rows.proofs.Link.{same-codes}
 
 -- rules that say the same of the actions have the same parts and counts
 module _ {X : Type 0} (actions : ℕ) (Q : X → Type 0) (f : ℕ → X) where

@@ -10,8 +10,8 @@ ghost use mathlib.Core.Path.{_≡_};
 ghost use Prim.Native.Nat.{_≤_};
 ghost use lib.ListN.{length};
 ghost use Rattle.sheet.specs.Sheet.{actionCount, nodeCount, actionsAt, nodesAt};
-ghost use Rattle.nodes.specs.Compiles.{SoundSheet};
-ghost use Rattle.nodes.specs.Building.{LimitsFit, Fresh, Finishes, typesOf};
+ghost use Rattle.node_rows.specs.Compiles.{SoundSheet};
+ghost use Rattle.node_rows.specs.Building.{LimitsFit, Fresh, Finishes, typesOf};
 
 // Builds the nodes of a sound sheet in scratch arrays of its own.
 pub fn build_sheet(

@@ -18,7 +18,7 @@ use Rattle.sheet.specs.declared.TypedNode.{TypedNode}
 use Rattle.sheet.specs.declared.Node.{Node}
 use Rattle.sheet.specs.declared.NodeRead.the-variants.{Read}
 use Rattle.lower.specs.Nodes.{nodeRule}
-use Rattle.nodes.specs.Compiles.{SoundSheet, PolicyNode}
+use Rattle.node_rows.specs.Compiles.{SoundSheet, PolicyNode}
 
 -- A part of node n: a policy node before it.
 pub record EarlierPolicy (types : List TypedNode) (n i : ℕ) : Type 0 where

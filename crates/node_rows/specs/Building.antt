@@ -20,9 +20,9 @@ use Rattle.lower.specs.Nodes.{Tables, NodeRows}
 use Rattle.lower.specs.Lowering.{setsOf, lowered}
 use Rattle.lower.specs.declared.Lowered.{Lowered}
 use Rattle.lower.specs.declared.Lowered.the-variants.{AsFormula}
-use Rattle.nodes.specs.Compiles.{refused, SoundSheet, PolicyNode, BuiltBefore, Compiles}
-use Rattle.nodes.specs.declared.AllBuilt.{AllBuilt}
-use Rattle.nodes.specs.declared.AllBuilt.the-variants.{Rows as AllRows, ValuesAt, RowsAt}
+use Rattle.node_rows.specs.Compiles.{refused, SoundSheet, PolicyNode, BuiltBefore, Compiles}
+use Rattle.node_rows.specs.declared.AllBuilt.{AllBuilt}
+use Rattle.node_rows.specs.declared.AllBuilt.the-variants.{Rows as AllRows, ValuesAt, RowsAt}
 
 -- What a node is lowered to, as it is read.
 abbrev pub loweredRead : (ℕ → NodeType) → (ℕ → ℕ) → NodeRead → Lowered

@@ -3,13 +3,13 @@
 use mathlib.Core.Path.{_≡_}
 use native.Mathlib.Omega.{arith}
 use Rattle.sheet.specs.Sheet.{actionCount, nodeCount, actionsAt, nodesAt}
-use Rattle.nodes.specs.Compiles.{SoundSheet}
-use Rattle.nodes.specs.Building.{typesOf}
-use Rattle.nodes.proofs.Progressing.{begins}
-use Rattle.nodes.proofs.Settling.{settable, prepared}
+use Rattle.node_rows.specs.Compiles.{SoundSheet}
+use Rattle.node_rows.specs.Building.{typesOf}
+use Rattle.node_rows.proofs.Progressing.{begins}
+use Rattle.node_rows.proofs.Settling.{settable, prepared}
 use borrow.Author.Needs.{needs}
-use Rattle.nodes.proofs.sheets.build_sheet.Statement.{statement}
-use Rattle.nodes.proofs.sheets.build_sheet.Tie as tie
+use Rattle.node_rows.proofs.sheets.build_sheet.Statement.{statement}
+use Rattle.node_rows.proofs.sheets.build_sheet.Tie as tie
 
 -- what is lent
 module _ (c : tie.Start) where

@@ -4,11 +4,11 @@ use mathlib.Core.Path.{sym, _∙_}
 use native.Mathlib.Omega.{arith}
 use Prim.Native.Nat.{_<_}
 use Rattle.sheet.specs.Sheet.{nodeCount}
-use Rattle.nodes.specs.Building.{typesOf, LimitsFit, Rooms, Prepared, Begun}
-use Rattle.nodes.proofs.Lowerings.{formula-passes, buildable, policy-advances}
+use Rattle.node_rows.specs.Building.{typesOf, LimitsFit, Rooms, Prepared, Begun}
+use Rattle.node_rows.proofs.Lowerings.{formula-passes, buildable, policy-advances}
 use borrow.Author.Needs.{needs}
-use Rattle.nodes.proofs.each.build_next.Statement.{statement}
-use Rattle.nodes.proofs.each.build_next.Tie as tie
+use Rattle.node_rows.proofs.each.build_next.Statement.{statement}
+use Rattle.node_rows.proofs.each.build_next.Tie as tie
 
 module _ (c : tie.After-rule-of) where
   abbrev start : tie.Start
