@@ -38,12 +38,13 @@ pub struct Moved {
 }
 
 // The entry of an action in a row of the table at a place.
-fn entry(area: &[u8], place: usize, row: usize, actions: usize, action: usize) -> usize
+fn entry(area: &[u8], place: usize, row: u8, actions: usize, action: usize) -> u8
     requires { ⌜ Readable (now area) place row actions action ⌝ }
     ensures { λ r. ⌜ r ≡ entryAt (tableAt (now (area .entry)) place) row action ⌝ }
 {
     let bytes = place_bytes(area, place);
-    byte(bytes[8 + row * actions + action])
+    let at = 8 + byte(row) * actions + action;
+    bytes[at]
 }
 
 // Whether a place denies an action: an enforced rule whose entry is a trip.

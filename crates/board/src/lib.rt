@@ -13,8 +13,8 @@ pub use calls::take_off;
 // A place is empty, or holds an enforced rule and its row, or a watched rule and its row, or a watched rule fulfilled.
 pub enum Case {
     Empty,
-    Enforced(usize),
-    Watched(usize),
+    Enforced(u8),
+    Watched(u8),
     Fulfilled,
 }
 

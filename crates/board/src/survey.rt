@@ -3,6 +3,7 @@ use crate::Board;
 use crate::Case;
 use crate::places::case_at;
 use crate::places::place_bytes;
+use base::byte;
 use table::Header;
 use trace::Mode;
 ghost use mathlib.Core.Path.{_≡_};
@@ -54,7 +55,7 @@ fn type_number(mode: Mode) -> usize
 }
 
 // A rule of a type at a row.
-fn rule_at(area: &[u8], place: usize, kind: usize, row: usize) -> Seen
+fn rule_at(area: &[u8], place: usize, kind: usize, row: u8) -> Seen
     requires { ⌜ Within (now area) place ⌝ }
     ensures { λ r. ⌜ SeesRule (tableAt (now (area .entry)) place) kind row r ⌝ }
 {
@@ -69,7 +70,7 @@ fn rule_at(area: &[u8], place: usize, kind: usize, row: usize) -> Seen
     if type_number(mode) != kind {
         return Seen::Misfit;
     }
-    if row < rows {
+    if byte(row) < rows {
         Seen::Fits(actions)
     } else {
         Seen::Misfit

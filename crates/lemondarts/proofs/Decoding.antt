@@ -16,16 +16,16 @@ module _ (case row : ℕ) where
   pub as-empty : case ≡ 0 → at Empty ≡ placeOf case row
   as-empty e = rw e
 
-  pub as-enforced : (n : ℕ) → case ≡ 1 → n ≡ row → at (Enforced n) ≡ placeOf case row
-  as-enforced n e f = rw (e, f)
+  pub as-enforced : case ≡ 1 → at (Enforced row) ≡ placeOf case row
+  as-enforced e = rw e
 
-  pub as-watched : (n : ℕ) → case ≡ 2 → n ≡ row → at (Watched n) ≡ placeOf case row
-  as-watched n e f = rw (e, f)
+  pub as-watched : case ≡ 2 → at (Watched row) ≡ placeOf case row
+  as-watched e = rw e
 
   pub as-fulfilled : case ≡ 3 → at Fulfilled ≡ placeOf case row
   as-fulfilled e = rw e
 
-  pub as-no-row : (case ≡ 0 → ⊥) → (case ≡ 1 → ⊥) → (case ≡ 2 → ⊥) → (case ≡ 3 → ⊥) → at (Enforced 256) ≡ placeOf case row
+  pub as-no-row : (case ≡ 0 → ⊥) → (case ≡ 1 → ⊥) → (case ≡ 2 → ⊥) → (case ≡ 3 → ⊥) → at (Enforced 255) ≡ placeOf case row
   as-no-row a b c d = rw (ne-eqb case 0 a, ne-eqb case 1 b, ne-eqb case 2 c, ne-eqb case 3 d)
 
 -- two lists with the same first element and the same rest

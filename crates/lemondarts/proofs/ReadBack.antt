@@ -2,49 +2,47 @@
 -- Assumes nothing.
 use mathlib.Core.Path.{_≡_, refl, ap}
 use mathlib.Core.List.{List, [], _∷_, _++_}
-use Prim.Native.Nat.{ℕ, _<_}
-use native.Mathlib.Nat.{mod-eq-of-lt}
+use Prim.Native.Nat.{ℕ}
 use native.Mathlib.Omega.{arith}
-use lib.ListN.{length, getD}
+use lib.ListN.{length}
 use Rattle.board.specs.declared.Case.{Case}
 use Rattle.board.specs.declared.Case.the-variants.{Empty, Enforced, Watched, Fulfilled}
 use Rattle.board.specs.declared.Place.{Place}
 use Rattle.board.specs.declared.Board.{Board}
-use Rattle.lemondarts.specs.Record.{caseOf, placeOf, boardOf, caseByte, rowByte, recordOf, RowFits, Fits}
+use Rattle.lemondarts.specs.Record.{caseOf, placeOf, boardOf, caseByte, rowByte, recordOf}
 use Rattle.lemondarts.proofs.Decoding.{same-first}
 
-case-back : (c : Case) → RowFits c → caseOf (caseByte c) (rowByte c) ≡ c
-case-back Empty f = refl
-case-back (Enforced row) f = ap Enforced (mod-eq-of-lt f)
-case-back (Watched row) f = ap Watched (mod-eq-of-lt f)
-case-back Fulfilled f = refl
+case-back : (c : Case) → caseOf (caseByte c) (rowByte c) ≡ c
+case-back Empty = refl
+case-back (Enforced row) = refl
+case-back (Watched row) = refl
+case-back Fulfilled = refl
 
-place-back : (p : Place) → RowFits (p .case) → placeOf (caseByte (p .case)) (rowByte (p .case)) ≡ p
-place-back p f = ap (λ (c : Case). record { case = c }) (case-back (p .case) f)
+place-back : (p : Place) → placeOf (caseByte (p .case)) (rowByte (p .case)) ≡ p
+place-back p = ap (λ (c : Case). record { case = c }) (case-back (p .case))
 
 module _ (behind : List ℕ) where
-  list-back : (ps : List Place) → length ps ≡ 8 → ((i : ℕ) → i < 8 → RowFits (getD ps i (record { case = Empty }) .case))
-      → boardOf (recordOf (record { places = ps }) ++ behind) ≡ record { places = ps }
+  list-back : (ps : List Place) → length ps ≡ 8 → boardOf (recordOf (record { places = ps }) ++ behind) ≡ record { places = ps }
   unfolding boardOf recordOf
-  list-back [] n r = absurd (omega arith)
-  list-back (a ∷ []) n r = absurd (omega arith)
-  list-back (a ∷ b ∷ []) n r = absurd (omega arith)
-  list-back (a ∷ b ∷ c ∷ []) n r = absurd (omega arith)
-  list-back (a ∷ b ∷ c ∷ d ∷ []) n r = absurd (omega arith)
-  list-back (a ∷ b ∷ c ∷ d ∷ e ∷ []) n r = absurd (omega arith)
-  list-back (a ∷ b ∷ c ∷ d ∷ e ∷ f ∷ []) n r = absurd (omega arith)
-  list-back (a ∷ b ∷ c ∷ d ∷ e ∷ f ∷ g ∷ []) n r = absurd (omega arith)
-  list-back (a ∷ b ∷ c ∷ d ∷ e ∷ f ∷ g ∷ h ∷ i ∷ rest) n r = absurd (omega arith)
-  list-back (a ∷ b ∷ c ∷ d ∷ e ∷ f ∷ g ∷ h ∷ []) n r =
+  list-back [] n = absurd (omega arith)
+  list-back (a ∷ []) n = absurd (omega arith)
+  list-back (a ∷ b ∷ []) n = absurd (omega arith)
+  list-back (a ∷ b ∷ c ∷ []) n = absurd (omega arith)
+  list-back (a ∷ b ∷ c ∷ d ∷ []) n = absurd (omega arith)
+  list-back (a ∷ b ∷ c ∷ d ∷ e ∷ []) n = absurd (omega arith)
+  list-back (a ∷ b ∷ c ∷ d ∷ e ∷ f ∷ []) n = absurd (omega arith)
+  list-back (a ∷ b ∷ c ∷ d ∷ e ∷ f ∷ g ∷ []) n = absurd (omega arith)
+  list-back (a ∷ b ∷ c ∷ d ∷ e ∷ f ∷ g ∷ h ∷ i ∷ rest) n = absurd (omega arith)
+  list-back (a ∷ b ∷ c ∷ d ∷ e ∷ f ∷ g ∷ h ∷ []) n =
       ap (λ (ps : List Place). record { places = ps })
-      (same-first (place-back a (r 0 (omega arith)))
-      (same-first (place-back b (r 1 (omega arith)))
-      (same-first (place-back c (r 2 (omega arith)))
-      (same-first (place-back d (r 3 (omega arith)))
-      (same-first (place-back e (r 4 (omega arith)))
-      (same-first (place-back f (r 5 (omega arith)))
-      (same-first (place-back g (r 6 (omega arith)))
-      (same-first (place-back h (r 7 (omega arith))) refl))))))))
+      (same-first (place-back a)
+      (same-first (place-back b)
+      (same-first (place-back c)
+      (same-first (place-back d)
+      (same-first (place-back e)
+      (same-first (place-back f)
+      (same-first (place-back g)
+      (same-first (place-back h) refl))))))))
 
-  pub read-back : (board : Board) → Fits board → boardOf (recordOf board ++ behind) ≡ board
-  read-back board f = list-back (board .places) (f .eight) (f .rows)
+  pub read-back : (board : Board) → length (board .places) ≡ 8 → boardOf (recordOf board ++ behind) ≡ board
+  read-back board eight = list-back (board .places) eight

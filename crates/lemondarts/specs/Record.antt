@@ -1,22 +1,21 @@
 -- A board as 16 bytes, two a place: the case (0 empty, 1 enforced, 2 watched, 3 fulfilled) and the row.
 -- Assumes nothing.
-use mathlib.Core.Path.{_≡_}
 use mathlib.Core.Bool.{cond}
 use mathlib.Core.List.{List, [], _∷_}
-use Prim.Native.Nat.{ℕ, _%_, _<_}
+use Prim.Native.Nat.{ℕ}
 use lib.Dec.{eqb}
-use lib.ListN.{length, getD}
+use lib.ListN.{getD}
 use Rattle.board.specs.Places.{caseAt}
 use Rattle.board.specs.declared.Case.{Case}
 use Rattle.board.specs.declared.Case.the-variants.{Empty, Enforced, Watched, Fulfilled}
 use Rattle.board.specs.declared.Place.{Place}
 use Rattle.board.specs.declared.Board.{Board}
 
--- Any two bytes are a place. A case byte above 3 is read as an enforced rule at row 256, which no table has. The row byte of an empty or
+-- Any two bytes are a place. A case byte above 3 is read as an enforced rule at row 255, which no table has. The row byte of an empty or
 -- fulfilled place is not read.
 abbrev pub caseOf : ℕ → ℕ → Case
 caseOf case row =
-    cond (eqb case 0) Empty (cond (eqb case 1) (Enforced row) (cond (eqb case 2) (Watched row) (cond (eqb case 3) Fulfilled (Enforced 256))))
+    cond (eqb case 0) Empty (cond (eqb case 1) (Enforced row) (cond (eqb case 2) (Watched row) (cond (eqb case 3) Fulfilled (Enforced 255))))
 
 abbrev pub placeOf : ℕ → ℕ → Place
 placeOf case row = record { case = caseOf case row }
@@ -38,29 +37,16 @@ caseByte (Enforced row) = 1
 caseByte (Watched row) = 2
 caseByte Fulfilled = 3
 
--- A row of a board that a call leaves is below 256 (proofs/Kept.antt), so nothing is lost.
 abbrev pub rowByte : Case → ℕ
 rowByte Empty = 0
-rowByte (Enforced row) = row % 256
-rowByte (Watched row) = row % 256
+rowByte (Enforced row) = row
+rowByte (Watched row) = row
 rowByte Fulfilled = 0
 
--- The bytes of a board.
+-- The bytes of a board. Reading back what was written gives the same board (proofs/ReadBack.antt).
 unfoldable pub recordOf : Board → List ℕ
 recordOf board =
     caseByte (caseAt board 0) ∷ rowByte (caseAt board 0) ∷ caseByte (caseAt board 1) ∷ rowByte (caseAt board 1)
     ∷ caseByte (caseAt board 2) ∷ rowByte (caseAt board 2) ∷ caseByte (caseAt board 3) ∷ rowByte (caseAt board 3)
     ∷ caseByte (caseAt board 4) ∷ rowByte (caseAt board 4) ∷ caseByte (caseAt board 5) ∷ rowByte (caseAt board 5)
     ∷ caseByte (caseAt board 6) ∷ rowByte (caseAt board 6) ∷ caseByte (caseAt board 7) ∷ rowByte (caseAt board 7) ∷ []
-
--- A board that its bytes can hold: eight places, and every row is below 256. Reading back what was written gives the same board
--- (proofs/ReadBack.antt).
-abbrev pub RowFits : Case → Type 0
-RowFits Empty = Unit {0}
-RowFits (Enforced row) = row < 256
-RowFits (Watched row) = row < 256
-RowFits Fulfilled = Unit {0}
-
-pub record Fits (board : Board) : Type 0 where
-  pub eight : length (board .places) ≡ 8
-  pub rows : (i : ℕ) → i < 8 → RowFits (caseAt board i)

@@ -1,5 +1,4 @@
 // A board as 16 bytes, two a place: its case and its row.
-use base::byte;
 use board::Board;
 use board::Case;
 use board::Place;
@@ -20,12 +19,12 @@ fn place_of(case: u8, row: u8) -> Place
     }
     if case == 1 {
         return Place {
-            case: Case::Enforced(byte(row)),
+            case: Case::Enforced(row),
         };
     }
     if case == 2 {
         return Place {
-            case: Case::Watched(byte(row)),
+            case: Case::Watched(row),
         };
     }
     if case == 3 {
@@ -34,7 +33,7 @@ fn place_of(case: u8, row: u8) -> Place
         };
     }
     Place {
-        case: Case::Enforced(256),
+        case: Case::Enforced(255),
     }
 }
 
@@ -83,8 +82,8 @@ fn row_byte(board: Board, place: usize) -> u8
     let case = p.case;
     match case {
         Case::Empty => 0,
-        Case::Enforced(row) => (row % 256) as u8,
-        Case::Watched(row) => (row % 256) as u8,
+        Case::Enforced(row) => row,
+        Case::Watched(row) => row,
         Case::Fulfilled => 0,
     }
 }

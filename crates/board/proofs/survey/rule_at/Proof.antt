@@ -3,6 +3,7 @@
 use mathlib.Core.Path.{sym, _∙_, subst}
 use mathlib.Core.List.{List}
 use Prim.Native.Nat.{ℕ}
+use native.Mathlib.Omega.{arith}
 use Rattle.table.specs.declared.Header.{Header}
 use Rattle.table.specs.Answer.{FormedAs, Checked}
 use Rattle.board.specs.Places.{tableAt}
@@ -46,15 +47,18 @@ returns-2 c =
     let t = c .before in
     rule-of-other-type _ _ _ _ (formed (t .before .before)) _ _ (λ e. c .if1 .taken (t .type-number .ensures ∙ e))
 
+byte-requires : tie.Need-byte-requires
+byte-requires c κs = search needs
+
 returns-3 : tie.Need-returns-3
 returns-3 c =
-    let t = c .before .before in
-    rule-fits _ _ _ _ (formed (t .before .before)) _ _ (sym (t .type-number .ensures) ∙ c .before .if1 .left) (c .if2 .taken)
+    let t = c .before .before .before in
+    rule-fits _ _ _ _ (formed (t .before .before)) _ _ (sym (t .type-number .ensures) ∙ c .before .before .if1 .left) (omega (arith, c .before .byte .ensures .0))
 
 returns-4 : tie.Need-returns-4
 returns-4 c =
-    let t = c .before .before in
-    row-past-rows _ _ _ _ (formed (t .before .before)) _ _ (c .if2 .left)
+    let t = c .before .before .before in
+    row-past-rows _ _ _ _ (formed (t .before .before)) _ _ (omega (arith, c .before .byte .ensures .0))
 
 pub rule-at-spec : {M : Type 1} → statement M
 rule-at-spec =
@@ -66,5 +70,6 @@ rule-at-spec =
     returns
     type-number-requires
     returns-2
+    byte-requires
     returns-3
     returns-4)

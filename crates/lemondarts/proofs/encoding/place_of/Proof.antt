@@ -8,17 +8,11 @@ use Rattle.lemondarts.proofs.encoding.place_of.Tie as tie
 returns : tie.Need-returns
 returns c = as-empty _ _ (c .if1 .taken)
 
-byte-requires : tie.Need-byte-requires
-byte-requires c κs = search needs
-
 returns-2 : tie.Need-returns-2
-returns-2 c = as-enforced _ _ _ (c .before .if2 .taken) (c .byte .ensures .0)
-
-byte-requires-2 : tie.Need-byte-requires-2
-byte-requires-2 c κs = search needs
+returns-2 c = as-enforced _ _ (c .if2 .taken)
 
 returns-3 : tie.Need-returns-3
-returns-3 c = as-watched _ _ _ (c .before .if3 .taken) (c .byte2 .ensures .0)
+returns-3 c = as-watched _ _ (c .if3 .taken)
 
 returns-4 : tie.Need-returns-4
 returns-4 c = as-fulfilled _ _ (c .if4 .taken)
@@ -28,5 +22,4 @@ returns-5 c = as-no-row _ _ (c .before .before .before .if1 .left) (c .before .b
 
 pub place-of-spec : {M : Type 1} → statement M
 place-of-spec =
-    tie.close
-    (tie.spec returns byte-requires returns-2 byte-requires-2 returns-3 returns-4 returns-5)
+    tie.close (tie.spec returns returns-2 returns-3 returns-4 returns-5)

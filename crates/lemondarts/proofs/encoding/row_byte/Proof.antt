@@ -16,14 +16,8 @@ enum-told c = search needs
 enum-known-case : tie.Need-enum-known-case
 enum-known-case c = search needs
 
-cast-result : tie.Need-cast-result
-cast-result c = search needs
-
 enum-known-case-2 : tie.Need-enum-known-case-2
 enum-known-case-2 c = search needs
-
-cast-result-2 : tie.Need-cast-result-2
-cast-result-2 c = search needs
 
 enum-told-2 : tie.Need-enum-told-2
 enum-told-2 c = search needs
@@ -48,9 +42,7 @@ row-byte-spec =
     array-copy-out-p
     enum-told
     enum-known-case
-    cast-result
     enum-known-case-2
-    cast-result-2
     enum-told-2
     returns
     returns-2
