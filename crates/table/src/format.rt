@@ -63,7 +63,8 @@ pub fn check(bytes: &[u8]) -> Header
     if bytes.len() != 8 + rows * actions {
         return Header::BadHeader;
     }
-    if entries_fit(&bytes[8..], rows) {
+    let count = (rows % 256) as u8;
+    if entries_fit(&bytes[8..], count) {
         Header::Fields {
             mode,
             actions,

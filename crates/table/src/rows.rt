@@ -9,7 +9,7 @@ ghost use Rattle.automaton.specs.Machine.{Numbered, Distinct};
 ghost use Rattle.table.specs.Table.{EntryFits, RowsFit, CanonicalRows};
 
 // Whether an entry is below the count of rows, or 255.
-fn entry_fits(e: usize, rows: usize) -> bool
+fn entry_fits(e: u8, rows: u8) -> bool
     ensures { λ r. ⌜ Decides (EntryFits rows e) r ⌝ }
 {
     if e < rows {
@@ -18,15 +18,14 @@ fn entry_fits(e: usize, rows: usize) -> bool
     e == 255
 }
 
-// Whether every entry is below the count of rows, or 255. One plain pass.
-pub fn entries_fit(entries: &[u8], rows: usize) -> bool
+// Whether every entry is below the count of rows, or 255. One plain pass, byte by byte.
+pub fn entries_fit(entries: &[u8], rows: u8) -> bool
     ensures { λ r. ⌜ Decides ((k : ℕ) → k < length (now (entries .entry)) → EntryFits rows (getD (now (entries .entry)) k 255)) r ⌝ }
 {
     let mut fit = true;
     let mut k = 0;
     while k < entries.len() {
-        let e = byte(entries[k]);
-        fit = fit & entry_fits(e, rows);
+        fit = fit & entry_fits(entries[k], rows);
         k += 1;
     }
     fit

@@ -1,6 +1,6 @@
 -- `table::rows::entries_fit` meets its contract: the flag says whether every entry passed fits.
 -- Assumes nothing.
-use mathlib.Core.Path.{_≡_, _∙_}
+use mathlib.Core.Path.{_≡_}
 use Prim.Native.Nat.{ℕ, _≤_, _<_, _-_}
 use native.Mathlib.Omega.{arith}
 use lib.ListN.{length, getD}
@@ -23,13 +23,12 @@ loop-holds c = (search needs, λ j h. absurd (let z = h in omega arith))
 
 loop-again : tie.Need-loop-again Inv-loop μ-loop
 loop-again c =
-    let entries = c .before .before .before .before .before .before .args .entries .now in
-    let k = c .before .before .before .before .loop .k in
-    let read : c .before .byte .result ≡ getD entries k 255 = c .before .byte .ensures .0 ∙ getD-within entries k 0 255 (search needs) in (
+    let head = c .before .before .before in
+    let entries = head .before .before .args .entries .now in
+    let k = head .loop .k in
+    let read : getD entries k 0 ≡ getD entries k 255 = getD-within entries k 0 255 (search needs) in (
       search needs,
-      every-and (λ j. EntryFits _ (getD entries j 255)) k (c .before .before .before .before .loop .fit) (c .entry-fits .result)
-          (c .before .before .before .before .loop .inv .1)
-          (rw read at (c .entry-fits .ensures)),
+      every-and (λ j. EntryFits _ (getD entries j 255)) k (head .loop .fit) (c .entry-fits .result) (head .loop .inv .1) (rw read at (c .entry-fits .ensures)),
     )
 
 returns : tie.Need-returns Inv-loop μ-loop
@@ -43,7 +42,6 @@ entries-fit-spec =
     μ-loop
     loop-holds
     (λ c. search needs)
-    (λ c κs. search needs)
     (λ c κs. search needs)
     (λ c. search needs)
     (λ c. search needs)
