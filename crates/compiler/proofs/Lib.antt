@@ -5,3 +5,4 @@ pub mod Demands
 pub mod WrittenTable
 pub mod Finishing
 pub mod LentAreas
+pub mod CallDetermined
