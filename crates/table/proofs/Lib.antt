@@ -3,3 +3,4 @@ pub mod Scan
 pub mod Verdicts
 pub mod Apart
 pub mod Loading
+pub mod EntriesRange

@@ -7,28 +7,33 @@ ghost use lib.ListN.{length, getD};
 ghost use Rattle.base.specs.Build.{Decides};
 ghost use Rattle.automaton.specs.Machine.{Numbered, Distinct};
 ghost use Rattle.table.specs.Table.{EntryFits, RowsFit, CanonicalRows};
+ghost use Rattle.table.specs.Largest.{onePast, Larger};
 
-// Whether an entry is below the count of rows, or 255.
-fn entry_fits(e: u8, rows: u8) -> bool
-    ensures { λ r. ⌜ Decides (EntryFits rows e) r ⌝ }
+// One past an entry: 0 for a trip, so that the entry fits exactly when this is at most the count of rows.
+fn one_past(e: u8) -> u8
+    ensures { λ r. ⌜ r ≡ onePast e ⌝ }
 {
-    if e < rows {
-        return true;
-    }
-    e == 255
+    if e == 255 { 0 } else { e + 1 }
 }
 
-// Whether every entry is below the count of rows, or 255. One plain pass, byte by byte.
+// The larger of two.
+fn larger(a: u8, b: u8) -> u8
+    ensures { λ r. ⌜ Larger a b r ⌝ }
+{
+    if a < b { b } else { a }
+}
+
+// Whether every entry is below the count of rows, or 255. One plain pass for the largest, byte by byte.
 pub fn entries_fit(entries: &[u8], rows: u8) -> bool
     ensures { λ r. ⌜ Decides ((k : ℕ) → k < length (now (entries .entry)) → EntryFits rows (getD (now (entries .entry)) k 255)) r ⌝ }
 {
-    let mut fit = true;
+    let mut top = 0u8;
     let mut k = 0;
     while k < entries.len() {
-        fit = fit & entry_fits(entries[k], rows);
+        top = larger(top, one_past(entries[k]));
         k += 1;
     }
-    fit
+    top <= rows
 }
 
 // Whether the rows are in the stated numbering, each met, and met before it is read.

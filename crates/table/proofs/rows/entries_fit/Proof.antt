@@ -1,38 +1,37 @@
--- `table::rows::entries_fit` meets its contract: the flag says whether every entry passed fits.
+-- `table::rows::entries_fit` meets its contract. The loop's invariant: the largest so far. The measure is what is left of the entries.
 -- Assumes nothing.
-use mathlib.Core.Path.{_≡_}
-use Prim.Native.Nat.{ℕ, _≤_, _<_, _-_}
+use mathlib.Core.Path.{_≡_, ap, _∙_}
+use Prim.Native.Nat.{_≤_, _-_}
 use native.Mathlib.Omega.{arith}
 use lib.ListN.{length, getD}
 use borrow.Author.Needs.{needs}
-use Rattle.base.specs.Build.{Decides}
 use Rattle.base.proofs.Lists.{getD-within}
-use Rattle.table.specs.Table.{EntryFits}
-use Rattle.base.proofs.Decide.{decides-map, every-and}
+use Rattle.table.specs.Largest.{onePast}
+use Rattle.table.proofs.EntriesRange.{Largest, largest-none, largest-more, largest-decides}
 use Rattle.table.proofs.rows.entries_fit.Statement.{statement}
 use Rattle.table.proofs.rows.entries_fit.Tie as tie
 
 abbrev Inv-loop : tie.InvT-loop
-Inv-loop entries rows fit₀ k₀ fit k = (k ≤ length entries) × Decides ((j : ℕ) → j < k → EntryFits rows (getD entries j 255)) fit
+Inv-loop entries rows top₀ k₀ top k = (k ≤ length entries) × Largest entries k top
 
 abbrev μ-loop : tie.MeasureT-loop
-μ-loop entries rows fit₀ k₀ fit k = length entries - k
+μ-loop entries rows top₀ k₀ top k = length entries - k
 
 loop-holds : tie.Need-loop-holds Inv-loop μ-loop
-loop-holds c = (search needs, λ j h. absurd (let z = h in omega arith))
+loop-holds c = (omega arith, largest-none _)
 
 loop-again : tie.Need-loop-again Inv-loop μ-loop
 loop-again c =
-    let head = c .before .before .before in
+    let head = c .before .before .before .before in
     let entries = head .before .before .args .entries .now in
     let k = head .loop .k in
     let read : getD entries k 0 ≡ getD entries k 255 = getD-within entries k 0 255 (search needs) in (
       search needs,
-      every-and (λ j. EntryFits _ (getD entries j 255)) k (head .loop .fit) (c .entry-fits .result) (head .loop .inv .1) (rw read at (c .entry-fits .ensures)),
+      largest-more entries k (head .loop .top) (c .before .one-past .result) (c .larger .result) (head .loop .inv .1) (c .before .one-past .ensures ∙ ap onePast read) (c .larger .ensures),
     )
 
 returns : tie.Need-returns Inv-loop μ-loop
-returns c = decides-map (λ h k q. h k (omega arith)) (λ h k q. h k (omega arith)) (c .before .loop .fit) (c .before .loop .inv .1)
+returns c = largest-decides _ _ _ _ (c .before .loop .inv .1) (let h = c .before .loop .inv .0 in let g = c .loop-test .left in omega arith)
 
 pub entries-fit-spec : {M : Type 1} → statement M
 entries-fit-spec =
@@ -42,6 +41,7 @@ entries-fit-spec =
     μ-loop
     loop-holds
     (λ c. search needs)
+    (λ c κs. search needs)
     (λ c κs. search needs)
     (λ c. search needs)
     (λ c. search needs)
