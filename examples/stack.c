@@ -33,9 +33,16 @@ static const uint8_t sheet[78] = {
     4, 0, 0, 0, 0, 11, 0, 6, 0, 0, 17, 0, 7, 0, 0, 19, 0, 5, 8, 0, 21, 0, 2, 9, 0, 17, 0, 10, 0, 0,
 };
 
+/* Or (Ignoring p0: Count 32) (Ignoring p1: Count 32), over two actions: 1,024 values, so the large lists are used; refused 9. */
+static const uint8_t wide[44] = {
+    2, 0, 6, 0, 10, 0, 14, 0, 44, 0, 1, 0, 2, 0,
+    3, 0, 0, 0, 0, 3, 1, 0, 0, 0, 12, 32, 0, 0, 0, 23, 0, 0, 2, 0, 23, 0, 1, 2, 0, 15, 0, 3, 4, 0,
+};
+
 static void nothing(void) {}
 static void load(void) { answer = lemondarts_load(table, sizeof table); }
 static void compile(void) { answer = lemondarts_compile(sheet, sizeof sheet, out, sizeof out, work, sizeof work, values, LEMONDARTS_VALUES); }
+static void compile_wide(void) { answer = lemondarts_compile(wide, sizeof wide, out, sizeof out, work, sizeof work, values, LEMONDARTS_VALUES); }
 static void new_board(void) { answer = lemondarts_new_board(record, sizeof record, area, sizeof area); }
 static void put_on(void) { answer = lemondarts_put_on(record, sizeof record, area, sizeof area, 0, table, sizeof table); }
 static void action(void) { answer = lemondarts_action(record, sizeof record, area, sizeof area, 0); }
@@ -58,7 +65,7 @@ static size_t used(void (*call)(void)) {
 
 static void show(const char *name, void (*call)(void), size_t bare) {
     size_t bytes = used(call);
-    printf("%-10s %6u bytes, answer %u\n", name, (unsigned)(bytes - bare), LEMONDARTS_NUMBER(answer));
+    printf("%-24s %6u bytes, answer %u\n", name, (unsigned)(bytes - bare), LEMONDARTS_NUMBER(answer));
 }
 
 /* The largest table: 64 rows of 16 actions, a chain in which the last row trips. */
@@ -75,7 +82,8 @@ int main(void) {
     size_t bare = used(nothing);
     make_table();
     show("load", load, bare);
-    show("compile", compile, bare);
+    show("compile, up to 64 values", compile, bare);
+    show("compile, more values", compile_wide, bare);
     show("new_board", new_board, bare);
     show("put_on", put_on, bare);
     show("action", action, bare);

@@ -9,7 +9,7 @@
  *   readable, and writable where the parameter is not const.
  * - The areas lent to one call must not overlap. No call keeps a pointer.
  * - Bytes need no alignment; `values` is aligned as a uint64_t, to 8 bytes.
- * - Stack: compiling takes some 50 KiB, loading and putting on some 3.2 KiB, the others under 1 KiB. examples/stack.c measures it.
+ * - Stack: compiling takes some 44 KiB, loading and putting on some 3.2 KiB, the others under 1 KiB. examples/stack.c measures it.
  * - Nothing else is asked of the caller: the contracts of the calls have no precondition.
  */
 #ifndef LEMONDARTS_H

@@ -9,10 +9,11 @@ mod openfst;
 
 use reference::board::{AREA, PLACES, RECORD};
 use reference::calls::{self, VALUES, WORK};
-use reference::cases::*;
+use reference::cases::papers;
 use reference::generate::{sheet, Random, Style};
 use reference::sheet::Sheet;
 use reference::table::LARGEST;
+use reference::trees::*;
 use std::hint::black_box;
 use std::time::Instant;
 
@@ -44,11 +45,11 @@ fn median(mut times: Vec<f64>) -> f64 {
     times[times.len() / 2]
 }
 
-/// Prints times of one call, given for `calls` calls together.
-fn line(call: &str, on: &str, calls: usize, [library, reference]: [f64; 2], scan: Option<f64>) {
+/// Prints times of one call, given for `calls` calls together. The last column is a scan, or a clearing.
+fn line(call: &str, on: &str, calls: usize, [library, reference]: [f64; 2], least: Option<f64>) {
     let each = |time: f64| time / calls as f64;
     print!("{call:9} {on:42} {:10.3} {:10.3} {:7.2}", each(library), each(reference), library / reference);
-    println!("{}", scan.map_or(String::new(), |scan| format!(" {:10.3} {:7.2}", each(scan), library / scan)));
+    println!("{}", least.map_or(String::new(), |least| format!(" {:10.3} {:7.2}", each(least), library / least)));
 }
 
 /// The library's compiler over some sheets, with areas of its own.
@@ -67,7 +68,15 @@ fn compile(on: &str, sheets: &[Vec<u8>]) {
             let _ = black_box(reference::compile(black_box(sheet)));
         }
     };
-    line("compile", on, sheets.len(), medians([&mut compiler(sheets), &mut by_reference]), None);
+    let (mut work, mut values) = (vec![0u8; WORK], vec![0u64; VALUES]);
+    let mut clearing = || {
+        for _ in sheets {
+            black_box(&mut work).fill(0);
+            black_box(&mut values).fill(0);
+        }
+    };
+    let [library, reference, clearing] = medians([&mut compiler(sheets), &mut by_reference, &mut clearing]);
+    line("compile", on, sheets.len(), [library, reference], Some(clearing));
 }
 
 fn load(on: &str, tables: &[Vec<u8>]) {
@@ -160,13 +169,19 @@ fn main() {
     println!("before it. No buffer is cleared first: a call finds its areas as the call before left them, in");
     println!("the cache. The library's compiler clears its work areas in each call, and its time has that;");
     println!("the reference takes memory from the heap. The scan adds up the bytes of the tables that are");
-    println!("on, which is what the check of the board has to read at each action.\n");
+    println!("on, which is what the check of the board has to read at each action. The clearing zeroes the two");
+    println!("work areas, which is the least that a compilation writes.\n");
     println!(
         "{:9} {:42} {:>10} {:>10} {:>7} {:>10} {:>7}",
-        "call", "on", "library", "reference", "ratio", "scan", "ratio"
+        "call", "on", "library", "reference", "ratio", "scan/clear", "ratio"
     );
 
-    let papers: Vec<Vec<u8>> = papers().into_iter().map(|case| case.sheet).collect();
+    let cases = papers();
+    for name in ["Whenever charge: Before+ drop", "Always Holds not charge", "After- Count 60 Count 4"] {
+        let case = cases.iter().find(|case| case.name == name).expect("a case of the papers");
+        compile(&format!("{name} ({} bytes)", case.sheet.len()), std::slice::from_ref(&case.sheet));
+    }
+    let papers: Vec<Vec<u8>> = cases.into_iter().map(|case| case.sheet).collect();
     compile(&format!("the papers' sheets ({})", papers.len()), &papers);
     let tables = tables_of(&papers, 4);
     board_calls("the papers' tables", &tables);

@@ -6,13 +6,16 @@ pub mod board;
 pub mod calls;
 pub mod cases;
 pub mod compile;
+pub mod corpus;
 #[cfg(feature = "exports")]
 mod exports;
 pub mod generate;
+pub mod inputs;
 pub mod machine;
 pub mod meaning;
 pub mod sheet;
 pub mod table;
+pub mod trees;
 pub mod values;
 
 pub use board::{Board, Verdict};

@@ -1,10 +1,11 @@
 //! The board: refusals in their order, impossible boards, and histories against the sequences.
 
 use reference::board::{AREA, RECORD};
-use reference::cases::*;
+use reference::cases::papers_table;
 use reference::compile;
 use reference::generate::Random;
 use reference::table::LARGEST;
+use reference::trees::*;
 use reference::{Board, Verdict};
 use Verdict::{Denied, Permitted};
 
@@ -108,7 +109,7 @@ fn impossible_boards() {
 fn histories() {
     let rules = [
         table(always(holds(but(prop(0))))),
-        table(whenever_charge()),
+        papers_table("Whenever charge: Before+ drop"),
         table(eventually(now(prop(1)))),
         table(count(3)),
         table(after_enforced(eventually(now(prop(1))), holds(prop(3)))),

@@ -4,9 +4,11 @@ pub mod Compared
 pub mod Counted
 pub mod Entries
 pub mod Grown
+pub mod MinimalRows
 pub mod Numbering
 pub mod QuotientNumbered
 pub mod QuotientReads
 pub mod Refining
+pub mod Rising
 pub mod Splits
 pub mod Stable

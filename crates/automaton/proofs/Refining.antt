@@ -6,18 +6,20 @@ use Prim.Native.Nat.{ℕ, _≤_, _<_}
 use native.Mathlib.Omega.{arith}
 use lib.ListN.{length, replicate, getD-replicate, length-replicate}
 use Rattle.automaton.specs.Machine.{Machine, AlikeStates}
-use Rattle.automaton.specs.Partition.{classOf, SameSignature, Partition, Over, SplitsTo}
+use Rattle.automaton.specs.Partition.{classOf, SameSignature, Partition, Over, SplitsTo, RestrictedGrowth}
 use Rattle.automaton.specs.declared.Refined.{Refined}
 use Rattle.automaton.specs.declared.Refined.the-variants.{Classes, TooMany}
 use Rattle.automaton.proofs.Compared.{signature-equivalence}
 use Rattle.automaton.proofs.Counted.{Classified, one-classified, partition-classified, no-fewer}
+use Rattle.automaton.proofs.Rising.{zeros-grow, partition-grows}
 use Rattle.automaton.proofs.Stable.{Sound, over-alike, pass-sound, stable-partition}
 
--- At most `limit` classes, each of some state, and coarser than alikeness, whatever the mark is.
+-- At most `limit` classes, each of some state, numbered by their first members, and coarser than alikeness, whatever the mark is.
 pub record Refining (states actions limit count : ℕ) (next classes : List ℕ) : Type 0 where
   pub few : count ≤ limit
   pub paired : length classes ≡ states
   pub classified : Classified states count classes
+  pub growth : RestrictedGrowth classes
   pub sound : (mark : ℕ) → Machine mark states actions next → Sound mark states actions next classes
 
 -- one class is coarser than everything
@@ -25,11 +27,15 @@ pub one-refining : (states actions limit : ℕ) (next classes : List ℕ) → 0 
 one-refining states actions limit next classes h some e =
     record {
       few = h;
-      paired = rw e (length-replicate states 0);
+      paired = sized;
       classified = one-classified states classes some zeros;
+      growth = zeros-grow classes (λ s g. zeros s (rw (← sized) g));
       sound = λ mark m. record { same = λ s t hs ht a. omega (arith, zeros s hs, zeros t ht) };
     }
   where
+    sized : length classes ≡ states
+    sized = rw e (length-replicate states 0)
+
     zeros : (s : ℕ) → s < states → classOf classes s ≡ 0
     zeros s g = rw e (getD-replicate states s 0 255 g)
 
@@ -55,6 +61,7 @@ module _ (states actions limit count : ℕ) (next classes : List ℕ) (r : Refin
           few = split-by .0;
           paired = h;
           classified = partition-classified (split-by .1);
+          growth = partition-grows (rw (← h) at (split-by .1));
           sound = λ mark m. pass-sound mark states actions next classes m (r .paired) (r .sound mark m) finer split firsts (split-by .1);
         }
 

@@ -1,3 +1,4 @@
 pub mod Machine
 pub mod Partition
 pub mod Quotient
+pub mod Minimal

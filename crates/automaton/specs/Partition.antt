@@ -48,12 +48,15 @@ pub record ClassFound (actions : ℕ) (next classes firsts : List ℕ) (count s 
   pub here : found < count → SameSignature actions next classes (firstOf firsts found) s
   pub lowest : (c : ℕ) → c < found → SameSignature actions next classes (firstOf firsts c) s → ⊥
 
--- What is lent to a search among the first members: they and s are states.
-pub record Searchable (actions states count s : ℕ) (next firsts : List ℕ) : Type 0 where
-  pub sized : length next ≡ states * actions
+-- What is lent to a search among the first members: they and s are states. Under the classes so far s has a class up to `count`, and the first
+-- member of class c one up to c, so that no class below that of s has its signature.
+pub record Searchable (actions count s : ℕ) (next classes firsts : List ℕ) : Type 0 where
+  pub sized : length next ≡ length classes * actions
   pub room : count ≤ length firsts
-  pub inside : (c : ℕ) → c < count → firstOf firsts c < states
-  pub state : s < states
+  pub inside : (c : ℕ) → c < count → firstOf firsts c < length classes
+  pub state : s < length classes
+  pub begun : classOf classes s ≤ count
+  pub risen : (c : ℕ) → c < count → classOf classes (firstOf firsts c) ≤ c
 
 -- What is lent to a refinement: entries for each state, a class for each state in both lists, room for the first members.
 pub record Refinable (actions limit : ℕ) (next classes other firsts : List ℕ) : Type 0 where
@@ -63,3 +66,8 @@ pub record Refinable (actions limit : ℕ) (next classes other firsts : List ℕ
   pub positive : 0 < limit
   pub small : limit ≤ 64
   pub room : limit ≤ length firsts
+
+-- Classes numbered by their first members, told by the list alone (a restricted growth string): every class below a state's is that of an
+-- earlier state.
+pub record RestrictedGrowth (classes : List ℕ) : Type 0 where
+  pub earlier : (s c : ℕ) → s < length classes → c < classOf classes s → (t : ℕ) × (t < s) × (classOf classes t ≡ c)

@@ -19,9 +19,11 @@ pub fn quotient(
     ensures { λ _. ⌜ now (out .exit) ≡ quotientRows actions count (now (next .entry)) (now (classes .entry)) (now (firsts .entry)) ++ drop (count * actions) (now (out .entry)) ⌝ }
 {
     let mut k = 0;
-    while k < count * actions {
-        let from = firsts[k / actions] * actions;
-        out[k] = class_behind(next, classes, from + k % actions);
-        k += 1;
+    for row in 0..count {
+        let from = firsts[row] * actions;
+        for action in 0..actions {
+            out[k] = class_behind(next, classes, from + action);
+            k += 1;
+        }
     }
 }

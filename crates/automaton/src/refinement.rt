@@ -1,14 +1,16 @@
 // Partition refinement, pass by pass, until a pass finds no class more.
 use crate::Refined;
-use crate::signature::same_signature;
+use crate::signature::class_behind;
+use crate::signature::class_of;
 use base::clear;
 use base::copy;
 ghost use Prim.Native.Nat.{ℕ, _+_, _<_};
 ghost use lib.ListN.{length};
 ghost use Rattle.automaton.specs.Machine.{Machine, AlikeStates};
-ghost use Rattle.automaton.specs.Partition.{SameSignature, SplitsTo, ClassFound, Searchable, Refinable};
+ghost use Rattle.automaton.specs.Partition.{SameSignature, SplitsTo, ClassFound, Searchable, Refinable, RestrictedGrowth};
 
-// The lowest class whose first member has the signature of s, or count where none has.
+// The lowest class whose first member has the signature of s, or count where none has. The search begins at the class of s so far.
+// A first member is left for the next at the first difference.
 fn find_class(
     next: &[u16],
     classes: &[u8],
@@ -17,17 +19,25 @@ fn find_class(
     count: usize,
     s: usize,
 ) -> usize
-    requires { ⌜ Searchable actions (length (now classes)) count s (now next) (now firsts) ⌝ }
+    requires { ⌜ Searchable actions count s (now next) (now classes) (now firsts) ⌝ }
     ensures { λ r. ⌜ ClassFound actions (now (next .entry)) (now (classes .entry)) (now (firsts .entry)) count s r ⌝ }
 {
-    let mut c = 0;
-    while c < count {
-        if same_signature(next, classes, actions, firsts[c], s) {
-            return c;
+    let class = class_of(classes, s);
+    let row = s * actions;
+    'rows: for c in class as usize..count {
+        let first = firsts[c];
+        if class_of(classes, first) != class {
+            continue 'rows;
         }
-        c += 1;
+        let first_row = first * actions;
+        for a in 0..actions {
+            if class_behind(next, classes, first_row + a) != class_behind(next, classes, row + a) {
+                continue 'rows;
+            }
+        }
+        return c;
     }
-    c
+    count
 }
 
 // One pass: splits the states by their signatures under the classes so far.
@@ -40,6 +50,7 @@ fn pass(
     limit: usize,
 ) -> Refined
     requires { ⌜ Refinable actions limit (now next) (now classes) (now finer) (now firsts) ⌝ }
+    requires { ⌜ RestrictedGrowth (now classes) ⌝ }
     ensures { λ r. ⌜ SplitsTo (SameSignature actions (now (next .entry)) (now (classes .entry))) (length (now (classes .entry))) limit r (now (finer .exit)) (now (firsts .exit)) ⌝ }
 {
     let mut count = 0;

@@ -11,15 +11,15 @@ use Rattle.board.specs.declared.Case.the-variants.{Empty, Enforced, Watc
 use Rattle.board.specs.declared.Board.{Board}
 
 -- A table passes 10 and its type and row fit the case.
-pub record Holds (table : List ℕ) (type : ℕ) : Type 0 where
+pub record TableOfType (table : List ℕ) (type : ℕ) : Type 0 where
   pub formed : WellFormed table
   pub typed : typeOf table ≡ type
 
 abbrev pub CaseFits : List ℕ → Case → Type 0
 CaseFits table Empty = Unit {0}
-CaseFits table (Enforced row) = Holds table 1 × (row < rowsOf table)
-CaseFits table (Watched row) = Holds table 2 × (row < rowsOf table)
-CaseFits table Fulfilled = Holds table 2
+CaseFits table (Enforced row) = TableOfType table 1 × (row < rowsOf table)
+CaseFits table (Watched row) = TableOfType table 2 × (row < rowsOf table)
+CaseFits table Fulfilled = TableOfType table 2
 
 -- Every taken place fits, and all taken places have one number of actions.
 pub record Possible (board : Board) (area : List ℕ) : Type 0 where

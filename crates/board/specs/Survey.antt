@@ -7,7 +7,7 @@ use Prim.Native.Nat.{ℕ, _<_}
 use lib.Dec.{eqb}
 use Rattle.table.specs.Table.{rowsOf, actionsOf}
 use Rattle.board.specs.Places.{caseAt, taken}
-use Rattle.board.specs.Possible.{Holds, CaseFits, Possible}
+use Rattle.board.specs.Possible.{TableOfType, CaseFits, Possible}
 use Rattle.board.specs.Calls.{Whole, SameActions, Vacant}
 use Rattle.board.specs.declared.Case.{Case}
 use Rattle.board.specs.declared.Board.{Board}
@@ -29,7 +29,7 @@ pub record FitsWith (table : List ℕ) (case : Case) (actions : ℕ) : Type 0 wh
 
 -- A rule of a type at a row: it fits and has so many actions, or it cannot be.
 pub record HoldsAt (table : List ℕ) (type row : ℕ) : Type 0 where
-  pub holds : Holds table type
+  pub holds : TableOfType table type
   pub within : row < rowsOf table
 
 abbrev pub SeesRule : List ℕ → ℕ → ℕ → Seen → Type 0

@@ -26,13 +26,13 @@ pub enum Denier {
 }
 
 // A rule after an action, and whether it is a watched one that the action trips, and so fulfils.
-pub struct Step {
+pub struct MovedCase {
     pub case: Case,
     pub trips: bool,
 }
 
 // A board after a permitted action, and the places that the action fulfils, as a set of bits.
-pub struct Moved {
+pub struct MovedBoard {
     pub board: Board,
     pub fulfilled: u8,
 }
@@ -78,15 +78,15 @@ fn lowest_denier(board: Board, area: &[u8], actions: usize, action: usize) -> De
 }
 
 // A rule moved by a permitted action. A watched rule that trips is fulfilled, and stays so.
-fn move_rule(case: Case, area: &[u8], place: usize, actions: usize, action: usize) -> Step
+fn move_rule(case: Case, area: &[u8], place: usize, actions: usize, action: usize) -> MovedCase
     requires { ⌜ Ready (now area) place case actions action ⌝ }
     ensures { λ r. ⌜ Steps (tableAt (now (area .entry)) place) action case (r .case) (r .trips) ⌝ }
 {
     match case {
-        Case::Empty => Step { case, trips: false },
+        Case::Empty => MovedCase { case, trips: false },
         Case::Enforced(row) => {
             let next = entry(area, place, row, actions, action);
-            Step {
+            MovedCase {
                 case: Case::Enforced(next),
                 trips: false,
             }
@@ -94,18 +94,18 @@ fn move_rule(case: Case, area: &[u8], place: usize, actions: usize, action: usiz
         Case::Watched(row) => {
             let next = entry(area, place, row, actions, action);
             if next == 255 {
-                Step {
+                MovedCase {
                     case: Case::Fulfilled,
                     trips: true,
                 }
             } else {
-                Step {
+                MovedCase {
                     case: Case::Watched(next),
                     trips: false,
                 }
             }
         }
-        Case::Fulfilled => Step { case, trips: false },
+        Case::Fulfilled => MovedCase { case, trips: false },
     }
 }
 
@@ -118,7 +118,7 @@ fn bit(on: bool, place: usize) -> u8
 }
 
 // Every rule moved by a permitted action.
-fn move_all(board: Board, area: &[u8], actions: usize, action: usize) -> Moved
+fn move_places(board: Board, area: &[u8], actions: usize, action: usize) -> MovedBoard
     requires { ⌜ Playable board (now area) actions action ⌝ }
     ensures { λ r. ⌜ AllMoved board (now (area .entry)) action (r .board) × (r .fulfilled ≡ fulfilledBelow board (now (area .entry)) action 8) ⌝ }
 {
@@ -132,7 +132,7 @@ fn move_all(board: Board, area: &[u8], actions: usize, action: usize) -> Moved
         fulfilled = fulfilled + bit(moved.trips, i);
         i += 1;
     }
-    Moved {
+    MovedBoard {
         board: next,
         fulfilled,
     }
@@ -150,7 +150,7 @@ fn act(board: Board, area: &[u8], actions: usize, action: usize) -> Acted
         };
     }
     let denier = lowest_denier(board, area, actions, action);
-    let moved = move_all(board, area, actions, action);
+    let moved = move_places(board, area, actions, action);
     let next = moved.board;
     match denier {
         Denier::At(place) => Acted {

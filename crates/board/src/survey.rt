@@ -5,9 +5,8 @@ use crate::places::case_at;
 use crate::places::place_bytes;
 use base::byte;
 use table::Header;
-use trace::Mode;
 ghost use mathlib.Core.Path.{_≡_};
-ghost use Rattle.table.specs.Answer.{Checked, modeNumber};
+ghost use Rattle.table.specs.Answer.{Checked};
 ghost use Rattle.board.specs.Places.{tableAt};
 ghost use Rattle.board.specs.Calls.{Whole};
 ghost use Rattle.board.specs.Survey.{Within, Sees, SeesRule, Surveys, joined, isImpossible, admitted};
@@ -44,18 +43,8 @@ fn check_at(area: &[u8], place: usize) -> Header
     table::check(&bytes[..size])
 }
 
-// The type's number in a table's header.
-fn type_number(mode: Mode) -> usize
-    ensures { λ r. ⌜ r ≡ modeNumber mode ⌝ }
-{
-    match mode {
-        Mode::Enforced => 1,
-        Mode::Watched => 2,
-    }
-}
-
 // A rule of a type at a row.
-fn rule_at(area: &[u8], place: usize, kind: usize, row: u8) -> Seen
+fn rule_at(area: &[u8], place: usize, kind: u8, row: u8) -> Seen
     requires { ⌜ Within (now area) place ⌝ }
     ensures { λ r. ⌜ SeesRule (tableAt (now (area .entry)) place) kind row r ⌝ }
 {
@@ -67,7 +56,7 @@ fn rule_at(area: &[u8], place: usize, kind: usize, row: u8) -> Seen
     else {
         return Seen::Misfit;
     };
-    if type_number(mode) != kind {
+    if table::mode_number(mode) != kind {
         return Seen::Misfit;
     }
     if byte(row) < rows {

@@ -5,7 +5,7 @@ use mathlib.Core.List.{List, _++_}
 use Prim.Native.Nat.{ℕ}
 use lib.ListN.{length, take, drop, replicate}
 use lib.Seq.{length-take-le}
-use Rattle.node_rows.specs.Compiles.{Answer}
+use Rattle.table.specs.Answer.{Answer}
 use Rattle.compiler.specs.Calling.{Areas, CompilesInto, compiles, Zeroed, CompilesTo}
 
 -- a list of one number, by its length

@@ -1,8 +1,10 @@
-pub mod Outcome
-pub mod TableBytes
-pub mod CompiledTable
-pub mod Demands
-pub mod WrittenTable
-pub mod Finishing
+pub mod Passed
+pub mod PartRows
+pub mod SameCodes
+pub mod NodeRuns
+pub mod SlotTables
+pub mod BuiltNodes
+pub mod Answers
+pub mod Judgements
 pub mod LentAreas
-pub mod CallDetermined
+pub mod WrittenTable

@@ -8,7 +8,7 @@ use lib.ListN.{length, take, drop, length-drop, drop-of-length-le}
 use lib.Seq.{take-at, drop-at, drop-drop}
 use borrow.Rule.Slice.PartMut.{midOf, putMid, postOf}
 use Rattle.base.proofs.Lists.{tail}
-use Rattle.node_rows.specs.Compiles.{tableBytes}
+use Rattle.compiler.specs.Compiles.{tableBytes}
 
 module _ (header entries out whole part : List ℕ) (eight : length header ≡ 8) (first : whole ≡ header ++ drop (length header) out)
     (second : part ≡ entries ++ drop (length entries) (midOf 8 (length whole - 8) whole)) where

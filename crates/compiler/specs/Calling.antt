@@ -4,14 +4,17 @@ use mathlib.Core.Path.{_≡_}
 use mathlib.Core.List.{List, _++_}
 use Prim.Native.Nat.{ℕ, _≤_}
 use lib.ListN.{length, drop, replicate}
-use Rattle.table.specs.Answer.{modeNumber}
-use Rattle.sheet.specs.Judge.{numberOf, spotOf}
-use Rattle.node_rows.specs.Compiles.{Answer, table, refused, Compiles}
+use Rattle.table.specs.Answer.{Answer, accepted, refused, modeNumber}
+use Rattle.syntax.specs.Faults.{numberOf, spotOf}
+use Rattle.trace.specs.declared.Mode.{Mode}
+use Rattle.syntax.specs.declared.Sheet.{Sheet}
+use Rattle.syntax.specs.declared.TypedNode.{TypedNode}
+use Rattle.compiler.specs.Compiles.{Builds, Compiles}
 use Rattle.compiler.specs.declared.Compiled.{Compiled}
 use Rattle.compiler.specs.declared.Compiled.the-variants.{Table, ShortArea, Faulty, TooManyValues, TooManyRows}
 
 abbrev pub answerOf : Compiled → Answer
-answerOf (Table mode actions rows) = table (modeNumber mode) actions rows
+answerOf (Table mode actions rows) = accepted (modeNumber mode) actions rows
 answerOf ShortArea = refused 14 0
 answerOf (Faulty f) = refused (numberOf f) (spotOf f)
 answerOf (TooManyValues n) = refused 8 n
@@ -30,10 +33,24 @@ pub data CompilesInto (bytes out work values : List ℕ) : Answer → List ℕ �
       → CompilesInto bytes out work values answer (written ++ drop (length written) out)
       (replicate 65536 0 ++ drop 65536 work) (replicate 1024 0 ++ drop 1024 values)
 
--- What compiling with any limits gives: the answer, and the table's bytes at the front of the output.
+-- What compiling with any limits is lent: limits in their ranges, and areas that are long enough.
+pub record Lent (valueLimit rowLimit : ℕ) (out work values : List ℕ) : Type 0 where
+  pub value-low : 1 ≤ valueLimit
+  pub value-high : valueLimit ≤ 1024
+  pub row-low : 1 ≤ rowLimit
+  pub row-high : rowLimit ≤ 64
+  pub areas : Areas out work values
+
+-- What it gives: the answer, and the table's bytes at the front of the output.
 pub record CompilesTo (bytes : List ℕ) (valueLimit rowLimit : ℕ) (answer : Answer) (before behind : List ℕ) : Type 0 where
   pub written : List ℕ
   pub compiles : Compiles bytes valueLimit rowLimit answer written
+  pub front : behind ≡ written ++ drop (length written) before
+
+-- The same of a sheet that passes checks 1 to 7.
+pub record BuildsTo (mode : Mode) (sheet : Sheet) (types : List TypedNode) (valueLimit rowLimit : ℕ) (answer : Answer) (before behind : List ℕ) : Type 0 where
+  pub written : List ℕ
+  pub builds : Builds mode sheet types valueLimit rowLimit answer written
   pub front : behind ≡ written ++ drop (length written) before
 
 -- A work area zeroed over its length.

@@ -1,2 +1,3 @@
+pub mod Limits
+pub mod Compiles
 pub mod Calling
-pub mod Demands

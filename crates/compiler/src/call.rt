@@ -1,17 +1,52 @@
 // The public call.
 use crate::Compiled;
 use crate::output::write_table;
-use node_rows::AllBuilt;
-use sheet::Judged;
-use sheet::Layout;
-use sheet::NodeType;
+use rule_rows::AllBuilt;
+use sheet::SheetFound;
+use syntax::Sheet;
+use syntax::TypedNode;
+use trace::Mode;
 ghost use mathlib.Core.Path.{_≡_};
 ghost use Prim.Native.Nat.{_≤_};
 ghost use lib.ListN.{length};
-ghost use Rattle.node_rows.specs.Building.{LimitsFit, Fresh};
-ghost use Rattle.compiler.specs.Calling.{answerOf, Zeroed, CompilesTo, CompilesInto};
+ghost use Rattle.syntax.specs.Typed.{SoundSheet};
+ghost use Rattle.compiler.specs.Calling.{answerOf, Lent, Zeroed, BuildsTo, CompilesTo, CompilesInto};
 
-// Compiles a sheet with any limits. The work area holds 255 everywhere.
+// Builds the rows of a sound sheet's nodes, and writes the table of the last one.
+fn build_table(
+    mode: Mode,
+    sheet: Sheet,
+    types: [TypedNode; 64],
+    out: &mut [u8],
+    work: &mut [u8],
+    values: &mut [u64],
+    value_limit: usize,
+    row_limit: usize,
+) -> Compiled
+    requires { ⌜ SoundSheet mode sheet types ⌝ }
+    requires { ⌜ Lent «value_limit» «row_limit» (now out) (now work) (now values) ⌝ }
+    ensures { λ r. ⌜ BuildsTo mode sheet types «value_limit» «row_limit» (answerOf r) (now (out .entry)) (now (out .exit)) ⌝ }
+{
+    let rules = node_rules::rules_of(sheet, types);
+    let count = sheet.count;
+    let actions = sheet.actions;
+    match rule_rows::build_all(rules, count, actions, value_limit, row_limit, work, values) {
+        AllBuilt::ValuesAt(n) => Compiled::TooManyValues(n),
+        AllBuilt::RowsAt(n) => Compiled::TooManyRows(n),
+        AllBuilt::Rows(rows) => {
+            let from = (count - 1) * 1024;
+            let to = from + rows * actions;
+            write_table(mode, actions, rows, &work[from..to], out);
+            Compiled::Table {
+                mode,
+                actions,
+                rows,
+            }
+        }
+    }
+}
+
+// Compiles a sheet with any limits.
 fn compile_with(
     sheet: &[u8],
     out: &mut [u8],
@@ -20,54 +55,17 @@ fn compile_with(
     value_limit: usize,
     row_limit: usize,
 ) -> Compiled
-    requires { ⌜ LimitsFit «value_limit» «row_limit» ⌝ }
-    requires { ⌜ 1032 ≤ length (now out) ⌝ }
-    requires { ⌜ Fresh (now work) ⌝ }
-    requires { ⌜ 1024 ≤ length (now values) ⌝ }
+    requires { ⌜ Lent «value_limit» «row_limit» (now out) (now work) (now values) ⌝ }
     ensures { λ r. ⌜ CompilesTo (now (sheet .entry)) «value_limit» «row_limit» (answerOf r) (now (out .entry)) (now (out .exit)) ⌝ }
 {
     let judged = sheet::judge(sheet);
-    let verdict = judged.judged;
-    let types = judged.types;
-    if let Judged::Faulty(fault) = verdict {
-        return Compiled::Faulty(fault);
-    }
-    let Layout::Laid {
-        actions,
-        nodes,
-        actions_at,
-        nodes_at,
-    } = sheet::find_layout(sheet)
-    else {
-        return Compiled::ShortArea;
-    };
-    let built = node_rows::build_sheet(
-        sheet,
-        actions,
-        nodes,
-        actions_at,
-        nodes_at,
-        types,
-        value_limit,
-        row_limit,
-        work,
-        values,
-    );
-    let NodeType::Policy(mode, _) = sheet::type_at(types, nodes - 1) else {
-        return Compiled::ShortArea;
-    };
-    match built {
-        AllBuilt::ValuesAt(n) => Compiled::TooManyValues(n),
-        AllBuilt::RowsAt(n) => Compiled::TooManyRows(n),
-        AllBuilt::Rows(rows) => {
-            let from = (nodes - 1) * 1024;
-            let to = from + rows * actions;
-            write_table(mode, actions, rows, &work[from..to], out);
-            Compiled::Table {
-                mode,
-                actions,
-                rows,
-            }
+    let found = judged.found;
+    match found {
+        SheetFound::NotSound(fault) => Compiled::Faulty(fault),
+        SheetFound::Policy(mode) => {
+            let read = judged.sheet;
+            let types = judged.types;
+            build_table(mode, read, types, out, work, values, value_limit, row_limit)
         }
     }
 }
@@ -81,7 +79,6 @@ fn compile_in(sheet: &[u8], out: &mut [u8], work: &mut [u8], values: &mut [u64])
     ensures { λ _. ⌜ Zeroed (now (work .entry)) (now (work .exit)) ⌝ }
     ensures { λ _. ⌜ Zeroed (now (values .entry)) (now (values .exit)) ⌝ }
 {
-    base::fill(work, 255);
     let compiled = compile_with(sheet, out, work, values, 1024, 64);
     base::fill(work, 0);
     base::clear_numbers(values);

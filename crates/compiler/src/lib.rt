@@ -3,7 +3,7 @@ mod call;
 mod output;
 
 pub use call::compile;
-use sheet::Fault;
+use syntax::Fault;
 use trace::Mode;
 
 // What compiling answers: a table, or a refusal.

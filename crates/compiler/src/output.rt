@@ -5,17 +5,7 @@ ghost use mathlib.Core.List.{_++_};
 ghost use Prim.Native.Nat.{_+_, _≤_};
 ghost use lib.ListN.{length, drop};
 ghost use Rattle.table.specs.Answer.{modeNumber};
-ghost use Rattle.node_rows.specs.Compiles.{tableBytes};
-
-// The number of a mode in a table's header.
-fn type_number(mode: Mode) -> u8
-    ensures { λ r. ⌜ r ≡ modeNumber mode ⌝ }
-{
-    match mode {
-        Mode::Enforced => 1,
-        Mode::Watched => 2,
-    }
-}
+ghost use Rattle.compiler.specs.Compiles.{tableBytes};
 
 // Writes a table to the front of `out`.
 pub fn write_table(mode: Mode, actions: usize, rows: usize, entries: &[u8], out: &mut [u8])
@@ -25,7 +15,7 @@ pub fn write_table(mode: Mode, actions: usize, rows: usize, entries: &[u8], out:
     ensures { λ _. ⌜ now (out .exit) ≡ tableBytes (modeNumber mode) actions rows (now (entries .entry)) ++ drop (8 + length (now (entries .entry))) (now (out .entry)) ⌝ }
 {
     let header = [
-        type_number(mode),
+        table::mode_number(mode),
         0,
         (actions % 256) as u8,
         0,

@@ -20,9 +20,6 @@ module _ (number value actions rows : ℕ) (n : number < 256) (v : value < 256) 
   pub value-of : pack number value actions rows / 256 % 256 ≡ value
   value-of = omega arith
 
-  pub actions-of : pack number value actions rows / 65536 % 256 ≡ actions
-  actions-of = omega arith
-
   pub rows-of : pack number value actions rows / 16777216 ≡ rows
   rows-of = omega arith
 

@@ -19,9 +19,6 @@ use Rattle.lemondarts.specs.Numbers.{pack, packedReply, packedAnswer, An
 use Rattle.lemondarts.specs.Exports.{ActsOn, Returns, called}
 
 -- the number of a table, by its type
-pub typed-number : (m : Mode) (type actions rows n : ℕ) → type ≡ modeNumber m → n ≡ pack 0 type actions rows → n ≡ pack 0 (modeNumber m) actions rows
-typed-number m type actions rows n t h = h ∙ ap (λ (k : ℕ). pack 0 k actions rows) t
-
 pub loaded-number : (l : Loaded) (m : Mode) (actions rows n : ℕ) → l ≡ Table m actions rows → n ≡ pack 0 (modeNumber m) actions rows
     → n ≡ packedAnswer (answerOf l)
 loaded-number l m actions rows n e h = h ∙ ap (λ (x : Loaded). packedAnswer (answerOf x)) (sym e)

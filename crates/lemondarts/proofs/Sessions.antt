@@ -31,14 +31,14 @@ record-length bytes reply next h = chosen (changes reply)
     chosen true = omega (arith, length-append (recordOf next) (drop 16 bytes), sixteen next, length-drop 16 bytes)
     chosen false = refl
 
-pub record Holds (events : List Event) (bytes area : List ℕ) : Type 0 where
+pub record HeldBy (events : List Event) (bytes area : List ℕ) : Type 0 where
   pub long : 16 ≤ length bytes
   pub history : History events (boardOf bytes) area
 
 -- the bytes that a call leaves hold what the wrapped call left
 keeps : (event : Reply → Event) {events : List Event} (bytes : List ℕ) {left : List ℕ} {reply : Reply} (next : Board) (read : Reply)
     → 16 ≤ length bytes → read ≡ reply → boardOf (recordAfter bytes reply next) ≡ next → History (event reply ∷ events) next left
-    → Holds (event read ∷ events) (recordAfter bytes reply next) left
+    → HeldBy (event read ∷ events) (recordAfter bytes reply next) left
 keeps event {events} bytes {left} {reply} next read long e k h = record {
   long = subst (λ (n : ℕ). 16 ≤ n) (sym (record-length bytes reply next long)) long;
   history =
@@ -46,7 +46,7 @@ keeps event {events} bytes {left} {reply} next read long e k h = record {
       (subst (λ (b : Board). History (event reply ∷ events) b left) (sym k) h);
 }
 
-begins : {lent old bytes area : List ℕ} {returned : ℕ} → NewBoardReturns old lent returned bytes area → returned ≡ 0 → Holds [] bytes area
+begins : {lent old bytes area : List ℕ} {returned : ℕ} → NewBoardReturns old lent returned bytes area → returned ≡ 0 → HeldBy [] bytes area
 begins (short-record n) e = absurd (omega arith)
 begins {lent} {old} (called long reply next left (made w)) e = record {
   long = subst (λ (n : ℕ). 16 ≤ n) (sym (record-length old done emptyBoard long)) long;
@@ -54,28 +54,28 @@ begins {lent} {old} (called long reply next left (made w)) e = record {
 }
 begins (called long reply next left (make-14 n)) e = absurd (omega arith)
 
-module _ {events : List Event} {bytes area : List ℕ} (h : Holds events bytes area) where
+module _ {events : List Event} {bytes area : List ℕ} (h : HeldBy events bytes area) where
   put-holds : {bytes' area' : List ℕ} {place returned : ℕ} {table : List ℕ} → PutOnReturns bytes area place table returned bytes' area'
-      → Holds (put-on place table (changeReply returned) ∷ events) bytes' area'
+      → HeldBy (put-on place table (changeReply returned) ∷ events) bytes' area'
   put-holds (short-record n) = absurd (n (h .long))
   put-holds {place = place} {table = table} (called long reply next left p) =
       keeps (λ r. put-on place table r) bytes next _ long (put-answer p) (put-kept bytes p) (history.then-put (h .history) p)
 
   take-holds : {bytes' area' : List ℕ} {place returned : ℕ} → TakeOffReturns bytes area place returned bytes' area'
-      → Holds (take-off place (changeReply returned) ∷ events) bytes' area'
+      → HeldBy (take-off place (changeReply returned) ∷ events) bytes' area'
   take-holds (short-record n) = absurd (n (h .long))
   take-holds {place = place} (called long reply next left p) =
       keeps (λ r. take-off place r) bytes next _ long (take-answer p) (take-kept bytes p) (history.then-take (h .history) p)
 
   act-holds : {bytes' area' : List ℕ} {action returned : ℕ} → ActionReturns bytes area action returned bytes' area'
-      → Holds (act action (actionReply returned) ∷ events) bytes' area'
+      → HeldBy (act action (actionReply returned) ∷ events) bytes' area'
   act-holds (short-record n) = absurd (n (h .long))
   act-holds {action = action} (called long reply next left p) =
-      subst (λ (l : List ℕ). Holds (act action (actionReply (packedReply reply)) ∷ events) (recordAfter bytes reply next) l) (sym (p .unchanged))
+      subst (λ (l : List ℕ). HeldBy (act action (actionReply (packedReply reply)) ∷ events) (recordAfter bytes reply next) l) (sym (p .unchanged))
       (keeps (λ r. act action r) bytes next _ long (act-answer (p .acts)) (act-kept bytes (p .acts)) (history.then-act (h .history) (p .acts)))
 
 -- Every session is a history of the board that its record holds.
-pub session-history : {events : List Event} {bytes area : List ℕ} → Session events bytes area → Holds events bytes area
+pub session-history : {events : List Event} {bytes area : List ℕ} → Session events bytes area → HeldBy events bytes area
 session-history (begun r) = begins r refl
 session-history (then-put s r) = put-holds (session-history s) r
 session-history (then-take s r) = take-holds (session-history s) r

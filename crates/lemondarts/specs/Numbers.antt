@@ -18,7 +18,7 @@ packedReply (denied place) = pack 255 place 0 0
 packedReply (input number spot) = pack number spot 0 0
 packedReply (state number) = pack number 0 0 0
 
--- The loader's answer: for a table its type, actions and rows.
+-- The loader's and the compiler's answer: for a table its type, actions and rows; for a refusal its number and spot.
 abbrev pub packedAnswer : Answer → ℕ
 packedAnswer (accepted type actions rows) = pack 0 type actions rows
 packedAnswer (refused number spot) = pack number spot 0 0

@@ -2,30 +2,15 @@
 use crate::numbers::pack;
 use crate::numbers::table_number;
 use compiler::Compiled;
-use sheet::Fault;
+use syntax::fault_number;
+use syntax::fault_spot;
 ghost use mathlib.Core.Path.{_≡_};
-ghost use Rattle.sheet.specs.Judge.{numberOf, spotOf};
 ghost use Rattle.compiler.specs.Calling.{answerOf};
-ghost use Rattle.lemondarts.specs.Numbers.{pack as packed};
-ghost use Rattle.lemondarts.specs.Compiling.{packedCompiled, CompileReturns};
-
-// A fault of checks 1 to 7, with its node.
-fn fault_number(fault: Fault) -> u32
-    ensures { λ r. ⌜ r ≡ packed (numberOf fault) (spotOf fault) 0 0 ⌝ }
-{
-    match fault {
-        Fault::Length => 1,
-        Fault::Counts => 2,
-        Fault::Areas => 3,
-        Fault::UnknownKindAt(n) => pack(4, n, 0, 0),
-        Fault::WrongFieldAt(n) => pack(5, n, 0, 0),
-        Fault::WrongTypeAt(n) => pack(6, n, 0, 0),
-        Fault::BoundAt(n) => pack(7, n, 0, 0),
-    }
-}
+ghost use Rattle.lemondarts.specs.Numbers.{packedAnswer};
+ghost use Rattle.lemondarts.specs.Compiling.{CompileReturns};
 
 fn compile_number(answer: Compiled) -> u32
-    ensures { λ r. ⌜ r ≡ packedCompiled (answerOf answer) ⌝ }
+    ensures { λ r. ⌜ r ≡ packedAnswer (answerOf answer) ⌝ }
 {
     match answer {
         Compiled::Table {
@@ -34,7 +19,7 @@ fn compile_number(answer: Compiled) -> u32
             rows,
         } => table_number(mode, actions, rows),
         Compiled::ShortArea => 14,
-        Compiled::Faulty(fault) => fault_number(fault),
+        Compiled::Faulty(fault) => pack(fault_number(fault), fault_spot(fault), 0, 0),
         Compiled::TooManyValues(n) => pack(8, n, 0, 0),
         Compiled::TooManyRows(n) => pack(9, n, 0, 0),
     }

@@ -12,4 +12,4 @@ pub use calls::lemondarts_take_off;
 pub use compiling::lemondarts_compile;
 
 // An answer: its number, and whether it changes the board.
-pub struct Answer(pub u32, pub bool);
+pub struct NumberedReply(pub u32, pub bool);

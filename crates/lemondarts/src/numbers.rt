@@ -1,10 +1,12 @@
 // Answers as numbers of 32 bits. specs/Numbers.antt says which byte means what.
-use crate::Answer;
+use crate::NumberedReply;
+use base::byte;
 use board::Act;
 use board::Made;
 use board::Put;
 use board::Take;
 use table::Loaded;
+use table::mode_number;
 use trace::Mode;
 ghost use mathlib.Core.Path.{_≡_};
 ghost use Rattle.table.specs.Answer.{answerOf, modeNumber};
@@ -23,10 +25,7 @@ pub fn pack(number: usize, value: usize, actions: usize, rows: usize) -> u32
 pub fn table_number(mode: Mode, actions: usize, rows: usize) -> u32
     ensures { λ r. ⌜ r ≡ packed 0 (modeNumber mode) actions rows ⌝ }
 {
-    match mode {
-        Mode::Enforced => pack(0, 1, actions, rows),
-        Mode::Watched => pack(0, 2, actions, rows),
-    }
+    pack(0, byte(mode_number(mode)), actions, rows)
 }
 
 pub fn load_number(answer: Loaded) -> u32
@@ -43,51 +42,51 @@ pub fn load_number(answer: Loaded) -> u32
     }
 }
 
-pub fn made_answer(answer: Made) -> Answer
+pub fn made_answer(answer: Made) -> NumberedReply
     ensures { λ r. ⌜ AnswerIs (madeReply answer) (r .0) (r .1) ⌝ }
 {
     match answer {
-        Made::Board => Answer(0, true),
-        Made::ShortArea => Answer(14, false),
+        Made::Board => NumberedReply(0, true),
+        Made::ShortArea => NumberedReply(14, false),
     }
 }
 
-pub fn put_answer(answer: Put) -> Answer
+pub fn put_answer(answer: Put) -> NumberedReply
     ensures { λ r. ⌜ AnswerIs (putReply answer) (r .0) (r .1) ⌝ }
 {
     match answer {
-        Put::On => Answer(0, true),
-        Put::ShortArea => Answer(14, false),
-        Put::NoPlace => Answer(13, false),
-        Put::Impossible => Answer(25, false),
-        Put::Taken => Answer(22, false),
-        Put::Malformed => Answer(10, false),
-        Put::NotCanonical => Answer(11, false),
-        Put::OtherActions => Answer(23, false),
+        Put::On => NumberedReply(0, true),
+        Put::ShortArea => NumberedReply(14, false),
+        Put::NoPlace => NumberedReply(13, false),
+        Put::Impossible => NumberedReply(25, false),
+        Put::Taken => NumberedReply(22, false),
+        Put::Malformed => NumberedReply(10, false),
+        Put::NotCanonical => NumberedReply(11, false),
+        Put::OtherActions => NumberedReply(23, false),
     }
 }
 
-pub fn take_answer(answer: Take) -> Answer
+pub fn take_answer(answer: Take) -> NumberedReply
     ensures { λ r. ⌜ AnswerIs (takeReply answer) (r .0) (r .1) ⌝ }
 {
     match answer {
-        Take::Off => Answer(0, true),
-        Take::ShortArea => Answer(14, false),
-        Take::NoPlace => Answer(13, false),
-        Take::Impossible => Answer(25, false),
-        Take::EmptyPlace => Answer(21, false),
+        Take::Off => NumberedReply(0, true),
+        Take::ShortArea => NumberedReply(14, false),
+        Take::NoPlace => NumberedReply(13, false),
+        Take::Impossible => NumberedReply(25, false),
+        Take::EmptyPlace => NumberedReply(21, false),
     }
 }
 
-pub fn act_answer(answer: Act) -> Answer
+pub fn act_answer(answer: Act) -> NumberedReply
     ensures { λ r. ⌜ AnswerIs (actReply answer) (r .0) (r .1) ⌝ }
 {
     match answer {
-        Act::Permitted(fulfilled) => Answer(pack(0, base::byte(fulfilled), 0, 0), true),
-        Act::Denied(place) => Answer(pack(255, place, 0, 0), false),
-        Act::ShortArea => Answer(14, false),
-        Act::Impossible => Answer(25, false),
-        Act::EmptyBoard => Answer(24, false),
-        Act::NoAction => Answer(12, false),
+        Act::Permitted(fulfilled) => NumberedReply(pack(0, byte(fulfilled), 0, 0), true),
+        Act::Denied(place) => NumberedReply(pack(255, place, 0, 0), false),
+        Act::ShortArea => NumberedReply(14, false),
+        Act::Impossible => NumberedReply(25, false),
+        Act::EmptyBoard => NumberedReply(24, false),
+        Act::NoAction => NumberedReply(12, false),
     }
 }

@@ -1,32 +1,18 @@
-// A second reading of rule sheets, straight from document 01's meanings: each node on every short sequence, and rows by
-// comparing what continuations do. It has no rules, no remembered values and no refinement, and shares no code with the compiler.
+// A second reading of rule sheets and tables, straight from document 01's meanings: checks 1 to 7, each node on every short sequence, and a
+// table's verdict beside the policy's. It has no rules, no remembered values and no refinement, and shares no code with the compiler.
 mod bytes;
 mod checks;
 mod meanings;
-mod residuals;
 mod sequences;
 mod types;
+mod verdicts;
 
-pub use bytes::at;
-pub use bytes::number_at;
-pub use bytes::put;
-pub use bytes::put_number;
 pub use checks::find_areas;
 pub use checks::judge;
 pub use checks::node_at;
-pub use meanings::evaluate;
-pub use meanings::tripped;
-pub use residuals::rows_of;
-pub use sequences::last;
-pub use sequences::longest;
-pub use sequences::numbers_to;
-pub use sequences::parent;
-pub use sequences::step;
-pub use sequences::times;
-pub use types::parts_of;
-pub use types::type_of;
+pub use verdicts::compare;
 
-// Where a sheet's areas are. The number is 0, or the refusal 1, 2 or 3.
+// Where a sheet's areas are. The number is 0, or the refusal 1, 2 or 3, with all else 0.
 pub struct Areas {
     pub number: usize,
     pub actions: usize,
@@ -44,27 +30,25 @@ pub struct Fields {
     pub c: usize,
 }
 
-// A node's type: mode 0 for a formula, 1 enforced, 2 watched; its bound, or UNBOUNDED. The number is 0, or the refusal 4 to 7.
+// A node's type in one number: 4 * bound + mode, where the mode is 0 for a formula, 1 enforced, 2 watched, and the bound may be UNBOUNDED. The
+// number is 0, or the refusal 4 to 7.
 pub struct Type {
     pub number: usize,
-    pub mode: usize,
-    pub bound: usize,
+    pub code: usize,
 }
 
-// No refusal (0), or one of 1 to 7, and its spot.
+// No refusal (0) and the policy's mode, or a refusal of 1 to 7 and its spot.
 pub struct Finding {
     pub number: usize,
     pub spot: usize,
+    pub mode: usize,
 }
 
-// Rows found by residual behaviour: how many, at most 65, and whether every entry was judged.
-pub struct Found {
-    pub rows: usize,
-    pub whole: bool,
+// How many sequences were judged, and after how many of them a table's verdict is not the policy's.
+pub struct Compared {
+    pub sequences: usize,
+    pub differing: usize,
 }
 
 // The bound of a policy that has none.
 pub const UNBOUNDED: usize = 1000000;
-
-// An entry of the rows found that leads past the sequences compared.
-pub const UNKNOWN: usize = 254;

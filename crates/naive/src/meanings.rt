@@ -1,16 +1,20 @@
-// The meanings of document 01, on sequences. Truths are kept in a lent area of 64 times 2,048 bytes: at 2,048 * n + s stands
-// 1 where node n is satisfied by the sequence numbered s, or, for an action formula, by the action s. A node's truths are found from
-// those of its parts, which have lower numbers, and on sequences that are no longer.
+// The meanings of document 01, on sequences. Truths are kept in a lent area of 64 times 2,048 bytes: at 2,048 * n + s stands 1 where node n is
+// satisfied by the sequence numbered s, or, for an action formula, by the action s, and else 0. A node's truths are found from those of its
+// parts, which have lower numbers, and on sequences that are no longer.
 use crate::Areas;
 use crate::Fields;
 use crate::bytes::at;
 use crate::bytes::number_at;
 use crate::bytes::put;
 use crate::checks::node_at;
-use crate::sequences::longest;
+use crate::sequences::judged;
 use crate::sequences::number_of;
-use crate::sequences::numbers_to;
 use crate::sequences::spell;
+use crate::sequences::step;
+ghost use mathlib.Core.Path.{_≡_};
+ghost use Prim.Native.Nat.{_≤_};
+ghost use lib.ListN.{length};
+ghost use Rattle.naive.specs.Truths.{Truths};
 
 // Whether node n is satisfied by the sequence, or the action, numbered s.
 fn truth(truths: &[u8], n: usize, s: usize) -> bool {
@@ -23,19 +27,25 @@ fn truth(truths: &[u8], n: usize, s: usize) -> bool {
     at(truths, 2048 * n + s) == 1
 }
 
+// A truth as a number.
+fn bit(holds: bool) -> usize
+    ensures { λ r. ⌜ r ≤ 1 ⌝ }
+{
+    if holds { 1 } else { 0 }
+}
+
 // Keeps a truth.
-fn keep(truths: &mut [u8], n: usize, s: usize, holds: bool) {
+fn keep(truths: &mut [u8], n: usize, s: usize, holds: bool)
+    requires { ⌜ Truths (now truths) ⌝ }
+    ensures { λ _. ⌜ Truths (now (truths .exit)) ⌝ }
+{
     if 63 < n {
         return;
     }
     if 2047 < s {
         return;
     }
-    if holds {
-        put(truths, 2048 * n + s, 1);
-    } else {
-        put(truths, 2048 * n + s, 0);
-    }
+    put(truths, 2048 * n + s, bit(holds));
 }
 
 // Whether a sequence satisfies the part n.
@@ -55,36 +65,16 @@ fn first_fulfilment(truths: &[u8], actions: usize, n: usize, sequence: &[u8]) ->
     l
 }
 
-// Whether some suffix satisfies n, the whole and the empty one among them.
-fn some_suffix(truths: &[u8], actions: usize, n: usize, sequence: &[u8]) -> bool {
+// Whether some suffix, the whole and the empty one among them, is judged so by n.
+fn some_suffix(truths: &[u8], actions: usize, n: usize, sequence: &[u8], so: bool) -> bool {
     let mut from = 0;
     while from <= sequence.len() {
-        if satisfies(truths, actions, n, &sequence[from..]) {
+        if satisfies(truths, actions, n, &sequence[from..]) == so {
             return true;
         }
         from += 1;
     }
     false
-}
-
-// Whether every suffix satisfies n.
-fn every_suffix(truths: &[u8], actions: usize, n: usize, sequence: &[u8]) -> bool {
-    let mut from = 0;
-    while from <= sequence.len() {
-        if !satisfies(truths, actions, n, &sequence[from..]) {
-            return false;
-        }
-        from += 1;
-    }
-    true
-}
-
-// Whether the first action satisfies the formula n; `empty` for the empty sequence.
-fn first_action(truths: &[u8], n: usize, sequence: &[u8], empty: bool) -> bool {
-    if sequence.len() == 0 {
-        return empty;
-    }
-    truth(truths, n, at(sequence, 0))
 }
 
 // Before: the prefix up to and with the first fulfilment of a, or the whole, satisfies b.
@@ -120,87 +110,44 @@ fn fulfilling(truths: &[u8], actions: usize, node: Fields, sequence: &[u8]) -> b
     true
 }
 
-// Keeps an action that does not satisfy the formula n behind the `count` kept before, and answers how many are kept now.
-fn keep_unless(truths: &[u8], n: usize, action: usize, count: usize, kept: &mut [u8]) -> usize {
+// The sequence s and then an action, unless this satisfies the formula n.
+fn step_unless(truths: &[u8], actions: usize, n: usize, s: usize, action: usize) -> usize {
     if truth(truths, n, action) {
-        return count;
+        return s;
     }
-    if kept.len() <= count {
-        return count;
-    }
-    put(kept, count, action);
-    count + 1
-}
-
-// Writes the actions that do not satisfy the formula n to the front of `kept`, and answers how many.
-fn leave_out(truths: &[u8], n: usize, sequence: &[u8], kept: &mut [u8]) -> usize {
-    let mut count = 0;
-    let mut i = 0;
-    while i < sequence.len() {
-        count = keep_unless(truths, n, at(sequence, i), count, kept);
-        i += 1;
-    }
-    count
+    step(s, action, actions)
 }
 
 // Ignoring: the sequence without the actions that satisfy formula a satisfies b.
-fn ignoring(
-    truths: &[u8],
-    actions: usize,
-    a: usize,
-    b: usize,
-    sequence: &[u8],
-    kept: &mut [u8],
-) -> bool {
-    let count = leave_out(truths, a, sequence, kept);
-    if count <= kept.len() {
-        return satisfies(truths, actions, b, &kept[0..count]);
+fn ignoring(truths: &[u8], actions: usize, a: usize, b: usize, sequence: &[u8]) -> bool {
+    let mut s = 0;
+    let mut i = 0;
+    while i < sequence.len() {
+        s = step_unless(truths, actions, a, s, at(sequence, i));
+        i += 1;
     }
-    false
+    truth(truths, b, s)
 }
 
 // Whether a sequence satisfies a policy node.
-fn meaning(truths: &[u8], actions: usize, node: Fields, sequence: &[u8], kept: &mut [u8]) -> bool {
+fn meaning(truths: &[u8], actions: usize, node: Fields, sequence: &[u8]) -> bool {
     let a = node.a;
     let b = node.b;
     let kind = node.kind;
     match kind {
-        10 => first_action(truths, a, sequence, false),
-        11 => first_action(truths, a, sequence, true),
+        10 => (0 < sequence.len()) & truth(truths, a, at(sequence, 0)),
+        11 => (sequence.len() == 0) | truth(truths, a, at(sequence, 0)),
         12 => node.argument <= sequence.len(),
         13 => !satisfies(truths, actions, a, sequence),
         14 => satisfies(truths, actions, a, sequence) & satisfies(truths, actions, b, sequence),
         15 => satisfies(truths, actions, a, sequence) | satisfies(truths, actions, b, sequence),
-        16 => some_suffix(truths, actions, a, sequence),
-        17 => every_suffix(truths, actions, a, sequence),
+        16 => some_suffix(truths, actions, a, sequence, true),
+        17 => !some_suffix(truths, actions, a, sequence, false),
         18 | 19 => before(truths, actions, a, b, sequence),
         20 => after(truths, actions, a, b, sequence, false),
         21 => after(truths, actions, a, b, sequence, true),
         22 => fulfilling(truths, actions, node, sequence),
-        23 => ignoring(truths, actions, a, b, sequence, kept),
-        _ => false,
-    }
-}
-
-// Whether proposition p is in a set of propositions.
-fn proposition(set: usize, p: usize) -> bool {
-    match p {
-        0 => set % 2 == 1,
-        1 => set / 2 % 2 == 1,
-        2 => set / 4 % 2 == 1,
-        3 => set / 8 % 2 == 1,
-        4 => set / 16 % 2 == 1,
-        5 => set / 32 % 2 == 1,
-        6 => set / 64 % 2 == 1,
-        7 => set / 128 % 2 == 1,
-        8 => set / 256 % 2 == 1,
-        9 => set / 512 % 2 == 1,
-        10 => set / 1024 % 2 == 1,
-        11 => set / 2048 % 2 == 1,
-        12 => set / 4096 % 2 == 1,
-        13 => set / 8192 % 2 == 1,
-        14 => set / 16384 % 2 == 1,
-        15 => set / 32768 % 2 == 1,
+        23 => ignoring(truths, actions, a, b, sequence),
         _ => false,
     }
 }
@@ -210,7 +157,7 @@ fn formula(truths: &[u8], node: Fields, action: usize, set: usize) -> bool {
     let kind = node.kind;
     match kind {
         1 => true,
-        3 => proposition(set, node.argument),
+        3 => (set >> (node.argument % 16)) % 2 == 1,
         4 => !truth(truths, node.a, action),
         5 => truth(truths, node.a, action) & truth(truths, node.b, action),
         6 => truth(truths, node.a, action) | truth(truths, node.b, action),
@@ -218,101 +165,60 @@ fn formula(truths: &[u8], node: Fields, action: usize, set: usize) -> bool {
     }
 }
 
-// The truth of a formula node for one action.
-fn evaluate_action(
+// Whether a node is satisfied by the action, or by the sequence, numbered s. The sequence is spelled out in `letters`.
+fn satisfied(
     bytes: &[u8],
-    actions_at: usize,
-    action: usize,
+    laid: Areas,
     node: Fields,
-    n: usize,
-    truths: &mut [u8],
-) {
-    let set = number_at(bytes, actions_at % 65536 + 2 * (action % 65536));
-    let holds = formula(truths, node, action, set);
-    keep(truths, n, action, holds);
-}
-
-// The truths of a formula node: one for each action.
-fn evaluate_formula(
-    bytes: &[u8],
-    actions_at: usize,
-    actions: usize,
-    node: Fields,
-    n: usize,
-    truths: &mut [u8],
-) {
-    let mut action = 0;
-    while action < actions {
-        evaluate_action(bytes, actions_at, action, node, n, truths);
-        action += 1;
-    }
-}
-
-// The truth of a policy node on one sequence.
-fn evaluate_at(
-    actions: usize,
-    node: Fields,
-    n: usize,
     s: usize,
-    truths: &mut [u8],
+    truths: &[u8],
     letters: &mut [u8],
-    kept: &mut [u8],
-) {
-    let length = spell(s, actions, letters);
-    if length <= letters.len() {
-        let holds = meaning(truths, actions, node, &letters[0..length], kept);
-        keep(truths, n, s, holds);
+) -> bool {
+    if node.kind < 10 {
+        let set = number_at(bytes, laid.actions_at % 65536 + 2 * (s % 65536));
+        return formula(truths, node, s, set);
     }
+    let from = spell(s, laid.actions, letters);
+    meaning(truths, laid.actions, node, &letters[from..])
 }
 
-// The truths of a policy node: one for each sequence that is judged.
-fn evaluate_policy(
-    actions: usize,
-    node: Fields,
-    n: usize,
-    truths: &mut [u8],
-    letters: &mut [u8],
-    kept: &mut [u8],
-) {
-    let count = numbers_to(longest(actions), actions);
+// How many actions, or sequences, a node is judged on.
+fn judged_on(kind: usize, actions: usize) -> usize {
+    if kind < 10 { actions } else { judged(actions) }
+}
+
+// Room for the longest sequence that is judged.
+pub fn room_for_letters() -> [u8; 130]
+    ensures { λ r. ⌜ 130 ≡ length r ⌝ }
+{
+    [0u8; 130]
+}
+
+// The truths of node n.
+fn evaluate_node(bytes: &[u8], laid: Areas, n: usize, truths: &mut [u8])
+    requires { ⌜ Truths (now truths) ⌝ }
+    ensures { λ _. ⌜ Truths (now (truths .exit)) ⌝ }
+{
+    let mut letters = room_for_letters();
+    let node = node_at(bytes, laid.nodes_at, n);
+    let count = judged_on(node.kind, laid.actions);
     let mut s = 0;
     while s < count {
-        evaluate_at(actions, node, n, s, truths, letters, kept);
+        let holds = satisfied(bytes, laid, node, s, truths, &mut letters);
+        keep(truths, n, s, holds);
         s += 1;
     }
 }
 
-// The truths of node n.
-fn evaluate_node(
-    bytes: &[u8],
-    laid: Areas,
-    n: usize,
-    truths: &mut [u8],
-    letters: &mut [u8],
-    kept: &mut [u8],
-) {
-    let node = node_at(bytes, laid.nodes_at, n);
-    if node.kind < 10 {
-        evaluate_formula(bytes, laid.actions_at, laid.actions, node, n, truths);
-    } else {
-        evaluate_policy(laid.actions, node, n, truths, letters, kept);
-    }
-}
-
-// The truths of every node of a sound sheet, in their order. `letters` and `kept` are scratch, of 160 bytes each.
-pub fn evaluate(bytes: &[u8], laid: Areas, truths: &mut [u8], letters: &mut [u8], kept: &mut [u8]) {
+// The truths of every node of a sound sheet, in their order.
+pub fn evaluate(bytes: &[u8], laid: Areas, truths: &mut [u8])
+    requires { ⌜ Truths (now truths) ⌝ }
+    ensures { λ _. ⌜ Truths (now (truths .exit)) ⌝ }
+{
     let nodes = laid.nodes;
     let mut n = 0;
     while n < nodes {
-        evaluate_node(bytes, laid, n, truths, letters, kept);
+        evaluate_node(bytes, laid, n, truths);
         n += 1;
     }
-}
-
-// Whether a sequence has tripped node n: satisfied where it is watched (mode 2), violated where it is enforced.
-pub fn tripped(truths: &[u8], n: usize, mode: usize, s: usize) -> bool {
-    if mode == 2 {
-        return truth(truths, n, s);
-    }
-    !truth(truths, n, s)
 }

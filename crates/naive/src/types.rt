@@ -2,10 +2,12 @@
 use crate::Fields;
 use crate::Type;
 use crate::UNBOUNDED;
-ghost use Prim.Native.Nat.{_<_, _≤_};
+ghost use mathlib.Core.Path.{_≡_};
+ghost use Prim.Native.Nat.{_%_, _<_, _≤_};
+ghost use lib.ListN.{getD};
 
 // How many parts a kind has; 4 for an unknown kind.
-pub fn parts_of(kind: usize) -> usize
+fn parts_of(kind: usize) -> usize
     ensures { λ r. ⌜ r < 5 ⌝ }
 {
     match kind {
@@ -54,33 +56,40 @@ fn check_fields(node: Fields, n: usize) -> usize
     0
 }
 
-// A number of a list, or 0 past its end.
-fn item(list: &[usize], i: usize) -> usize {
-    if i < list.len() { list[i] } else { 0 }
+// The mode of node n, from its type in a list.
+pub fn mode_at(types: &[usize], n: usize) -> usize
+    ensures { λ r. ⌜ (r ≡ getD (now (types .entry)) n 0 % 4) × (r < 4) ⌝ }
+{
+    if n < types.len() { types[n] % 4 } else { 0 }
 }
 
-// The bound of a part, at most UNBOUNDED.
-fn bound_at(bounds: &[usize], i: usize) -> usize
+// The bound of node n, at most UNBOUNDED.
+fn bound_at(types: &[usize], n: usize) -> usize
     ensures { λ r. ⌜ r ≤ 1000000 ⌝ }
 {
-    let bound = item(bounds, i);
+    if types.len() <= n {
+        return 0;
+    }
+    let bound = types[n] / 4;
     if bound < UNBOUNDED { bound } else { UNBOUNDED }
 }
 
 // The larger of two bounds.
-fn larger(k: usize, l: usize) -> usize {
+fn larger(k: usize, l: usize) -> usize
+    requires { ⌜ k ≤ 1000000 ⌝ }
+    requires { ⌜ l ≤ 1000000 ⌝ }
+    ensures { λ r. ⌜ r ≤ 1000000 ⌝ }
+{
     if k < l { l } else { k }
 }
 
 // The sum of two bounds.
-fn sum(k: usize, l: usize) -> usize {
-    if UNBOUNDED <= k {
-        return UNBOUNDED;
-    }
-    if UNBOUNDED <= l {
-        return UNBOUNDED;
-    }
-    k + l
+fn sum(k: usize, l: usize) -> usize
+    requires { ⌜ k ≤ 1000000 ⌝ }
+    requires { ⌜ l ≤ 1000000 ⌝ }
+    ensures { λ r. ⌜ r ≤ 1000000 ⌝ }
+{
+    if k + l < UNBOUNDED { k + l } else { UNBOUNDED }
 }
 
 // Whether the parts of a node have the modes that its kind asks.
@@ -102,19 +111,27 @@ fn modes_fit(kind: usize, a: usize, b: usize, c: usize) -> bool {
 }
 
 // The mode of a node whose parts fit.
-fn mode_of(kind: usize, a: usize, b: usize) -> usize {
+fn mode_of(kind: usize, a: usize, b: usize) -> usize
+    ensures { λ r. ⌜ r ≤ 2 ⌝ }
+{
     match kind {
         10 | 12 | 16 | 18 | 20 => 2,
         11 | 17 | 19 | 21 | 22 => 1,
         13 => { if a == 1 { 2 } else { 1 } }
-        14 | 15 => a,
-        23 => b,
+        14 | 15 => { if a == 1 { 1 } else { 2 } }
+        23 => { if b == 1 { 1 } else { 2 } }
         _ => 0,
     }
 }
 
 // The bound of a node from those of its parts.
-fn bound_of(kind: usize, argument: usize, a: usize, b: usize, c: usize) -> usize {
+fn bound_of(kind: usize, argument: usize, a: usize, b: usize, c: usize) -> usize
+    requires { ⌜ argument < 256 ⌝ }
+    requires { ⌜ a ≤ 1000000 ⌝ }
+    requires { ⌜ b ≤ 1000000 ⌝ }
+    requires { ⌜ c ≤ 1000000 ⌝ }
+    ensures { λ r. ⌜ r ≤ 1000000 ⌝ }
+{
     match kind {
         10 | 11 => 1,
         12 => argument,
@@ -128,49 +145,39 @@ fn bound_of(kind: usize, argument: usize, a: usize, b: usize, c: usize) -> usize
     }
 }
 
-// Check 7: whether a bound is finite and above 65,534.
-fn too_long(bound: usize) -> bool {
-    (65534 < bound) & (bound < UNBOUNDED)
-}
-
-// A refusal of one node.
-fn refused(number: usize) -> Type {
-    Type {
-        number,
-        mode: 0,
-        bound: 0,
-    }
-}
-
-// The type of node n, from the modes and bounds of the nodes before it, or the first refusal of 4 to 7.
-pub fn type_of(node: Fields, n: usize, modes: &[usize], bounds: &[usize]) -> Type {
+// The type of node n, from the types of the nodes before it, or the first refusal of 4 to 7.
+pub fn type_of(node: Fields, n: usize, types: &[usize]) -> Type
+    requires { ⌜ node .argument < 256 ⌝ }
+    ensures { λ r. ⌜ (r .number < 8) × (r .code < 4000004) ⌝ }
+{
     let wrong = check_fields(node, n);
     if 0 < wrong {
-        return refused(wrong);
+        return Type {
+            number: wrong,
+            code: 0,
+        };
     }
-    let a = item(modes, node.a);
-    let b = item(modes, node.b);
-    let c = item(modes, node.c);
-    if !modes_fit(node.kind, a, b, c) {
-        return refused(6);
+    let a = mode_at(types, node.a);
+    let b = mode_at(types, node.b);
+    if !modes_fit(node.kind, a, b, mode_at(types, node.c)) {
+        return Type { number: 6, code: 0 };
     }
-    let bound_a = bound_at(bounds, node.a);
+    let bound_a = bound_at(types, node.a);
     if (node.kind == 22) & (bound_a != node.argument) {
-        return refused(6);
+        return Type { number: 6, code: 0 };
     }
     let bound = bound_of(
         node.kind,
         node.argument,
         bound_a,
-        bound_at(bounds, node.b),
-        bound_at(bounds, node.c),
+        bound_at(types, node.b),
+        bound_at(types, node.c),
     );
-    if too_long(bound) {
-        return refused(7);
+    if (65534 < bound) & (bound < UNBOUNDED) {
+        return Type { number: 7, code: 0 };
     }
     Type {
         number: 0,
-        mode: mode_of(node.kind, a, b),
-        bound,
+        code: 4 * bound + mode_of(node.kind, a, b),
     }
 }

@@ -3,7 +3,7 @@ use trace::Mode;
 
 // How many actions settle a policy at the latest.
 pub enum Bound {
-    Finite(usize),
+    Finite(u16),
     Unbounded,
 }
 

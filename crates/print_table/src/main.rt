@@ -13,7 +13,7 @@ fn print_input(input: &[u8], text: &mut [u8]) -> Printed {
     if 65535 < input.len() {
         return printing::print_refusal(1, 0, text);
     }
-    report::print_sheet(input, text)
+    sheet_text::print_sheet(input, text)
 }
 
 // The buffer holds one byte more than the longest sheet: longer input fills it.

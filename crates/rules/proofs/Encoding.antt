@@ -2,7 +2,7 @@
 -- are, and the number of a value that fits has at most 64 bits.
 -- Assumes nothing.
 use mathlib.Core.Path.{_≡_, refl, sym, _∙_, ap}
-use Prim.Native.Nat.{ℕ, _+_, _*_, _/_, _%_, _^_, _<_}
+use Prim.Native.Nat.{ℕ, _+_, _*_, _/_, _%_, _<_}
 use native.Mathlib.Nat.{mod-eq-of-lt}
 use native.Mathlib.Omega.{arith}
 use borrow.Author.Tests.{ne-eqb}
@@ -80,36 +80,3 @@ decode-encode (filtered hit f) v h = mod-eq-of-lt (omega arith)
 
 pub encode-injective : (rule : Rule Part) (u v : Value rule) → ValueFits rule u → ValueFits rule v → encode rule u ≡ encode rule v → u ≡ v
 encode-injective rule u v g h e = sym (decode-encode rule u g) ∙ ap (decode rule) e ∙ decode-encode rule v h
-
--- the numbers that are no sets have three bytes at most
-opening-small : (v : Opening) → openingCode v < 2 ^ 24
-opening-small fresh = omega arith
-opening-small spent = omega arith
-
-pair-small : (p : Pair) → PlaceFits (p .left) × PlaceFits (p .right) → pairCode p < 2 ^ 24
-pair-small p h = omega (arith, place-byte (p .left) (h .0), place-byte (p .right) (h .1))
-
-until-small : (v : Until) → UntilFits v → untilCode v < 2 ^ 24
-until-small (rows q r) h = omega arith
-until-small released h = omega arith
-
-then-small : (v : Then) → ThenFits v → thenCode v < 2 ^ 24
-then-small (row q) h = omega arith
-then-small (marked r) h = omega arith
-
-timed-small : (v : Timed) → TimedFits v → timedCode v < 2 ^ 24
-timed-small (waiting q n) h = omega arith
-timed-small (kept r) h = omega arith
-timed-small (missed r) h = omega arith
-
-pub encode-small : (rule : Rule Part) (v : Value rule) → ValueFits rule v → encode rule v < 2 ^ 64
-encode-small (opening hit) v h = omega (arith, opening-small v)
-encode-small (counting k) v h = omega arith
-encode-small (same f) v h = omega arith
-encode-small (both f g) v h = omega (arith, pair-small v h)
-encode-small (either f g) v h = omega (arith, pair-small v h)
-encode-small (copied f) v h = h
-encode-small (until f g) v h = omega (arith, until-small v h)
-encode-small (then f g) v h = omega (arith, then-small v h)
-encode-small (timed k f g i) v h = omega (arith, timed-small v h)
-encode-small (filtered hit f) v h = omega arith

@@ -1,8 +1,8 @@
 -- A rule that fits remembers values that fit, so that its step on numbers reads every sequence as its step on values does.
 -- Assumes nothing.
-use mathlib.Core.Path.{_≡_, refl, sym, _∙_, ap, subst}
+use mathlib.Core.Path.{_≡_, refl, _∙_, ap}
 use mathlib.Core.Bool.{Bool, true, false, cond}
-use mathlib.Core.List.{List, [], _∷_, _++_}
+use mathlib.Core.List.{List, [], _∷_}
 use mathlib.Core.Option.{Option, none, some}
 use Prim.Native.Nat.{ℕ, _≤_, _<_}
 use native.Mathlib.Omega.{arith}
@@ -12,29 +12,17 @@ use borrow.Author.Tests.{leb-false}
 use Rattle.trace.specs.Trace.{Move, trip, go, after, run, tripped, trips}
 use Rattle.policy.specs.Words.{first, without}
 use Rattle.policy.specs.Rule.{Rule, opening, counting, same, both, either, copied, until, then, timed, filtered, onParts, ruleTrips}
-use Rattle.policy.specs.Parts.{Positive}
 use Rattle.policy.specs.Closed.{Closed, Sound, answer}
 use Rattle.policy.specs.Value.{Part, partTrips, placeOf, rowOf, rows, released, rememberedThen, rememberedLate, rememberedTimed, Value, remembered, start, stepOf}
 use Rattle.policy.proofs.Copies.{row-below, copies-width}
-use Rattle.policy.proofs.Steps.{steps-right, steps-trip, step-right}
-use Rattle.rules.specs.Codes.{encode, decode, PlaceFits, UntilFits, ThenFits, TimedFits, ValueFits, CountFits, FitRule}
+use Rattle.policy.proofs.Steps.{steps-right}
+use Rattle.rules.specs.Codes.{encode, PlaceFits, UntilFits, ThenFits, TimedFits, ValueFits, FitRule}
 use Rattle.rules.specs.Steps.{encodeMove, codeStepOf}
 use Rattle.rules.proofs.Encoding.{decode-encode}
-
-positive : (rule : Rule Part) → CountFits rule → Positive rule
-positive (opening hit) h = tt
-positive (counting k) h = h .0
-positive (same f) h = tt
-positive (both f g) h = tt
-positive (either f g) h = tt
-positive (copied f) h = tt
-positive (until f g) h = tt
-positive (then f g) h = tt
-positive (timed k f g i) h = tt
-positive (filtered hit f) h = tt
+use Rattle.rules.proofs.RuleParts.{count-positive}
 
 pub fit-sound : (rule : Rule Part) → FitRule rule → Sound rule
-fit-sound rule fit = record { positive = positive rule (fit .counted); closed = fit .closed }
+fit-sound rule fit = record { positive = count-positive rule (fit .counted); closed = fit .closed }
 
 -- the row of a part, and its row or trip
 row-fits : (f : Part) → (n : ℕ) × Closed n f → (w : List ℕ) → rowOf (placeOf f w) < 64
@@ -87,7 +75,7 @@ MoveFits rule (go v) = ValueFits rule v
 
 module _ (rule : Rule Part) where
   -- on a value that fits, the step on numbers is the step on values
-  pub code-step : (v : Value rule) (a : ℕ) → ValueFits rule v → codeStepOf rule (encode rule v) a ≡ encodeMove rule (stepOf rule v a)
+  code-step : (v : Value rule) (a : ℕ) → ValueFits rule v → codeStepOf rule (encode rule v) a ≡ encodeMove rule (stepOf rule v a)
   code-step v a h = ap (λ (u : Value rule). encodeMove rule (stepOf rule u a)) (decode-encode rule v h)
 
   code-after : (m : Move (Value rule)) (a : ℕ) → MoveFits rule m
@@ -104,19 +92,20 @@ module _ (rule : Rule Part) where
   encode-tripped trip = refl
   encode-tripped (go v) = refl
 
+  pub encode-answer : (b : Bool) (v : Value rule) → encodeMove rule (answer b v) ≡ answer b (encode rule v)
+  encode-answer true v = refl
+  encode-answer false v = refl
+
   module _ (fit : FitRule rule) where
-    -- what is remembered of a sequence that has not tripped fits, at the start and behind every action
+    -- what is remembered of a sequence that has not tripped fits
     pub remembered-fits : (w : List ℕ) → ruleTrips (onParts partTrips rule) w ≡ false → ValueFits rule (remembered rule w)
     remembered-fits = fits rule fit
-
-    pub start-fits : ValueFits rule (start rule)
-    start-fits = remembered-fits [] (sym (steps-trip rule (fit-sound rule fit) []))
 
     answer-fits : (w : List ℕ) (b : Bool) → ruleTrips (onParts partTrips rule) w ≡ b → MoveFits rule (answer b (remembered rule w))
     answer-fits w true e = tt
     answer-fits w false e = remembered-fits w e
 
-    pub run-fits : (w : List ℕ) → MoveFits rule (run (stepOf rule) (go (start rule)) w)
+    run-fits : (w : List ℕ) → MoveFits rule (run (stepOf rule) (go (start rule)) w)
     run-fits w = rw (steps-right rule (fit-sound rule fit) w) (answer-fits w (ruleTrips (onParts partTrips rule) w) refl)
 
     -- read from the start, the step on numbers goes through the numbers of the values
@@ -126,15 +115,3 @@ module _ (rule : Rule Part) where
 
     pub code-trips : (w : List ℕ) → trips (codeStepOf rule) (encode rule (start rule)) w ≡ trips (stepOf rule) (start rule) w
     code-trips w = ap tripped (code-run w) ∙ encode-tripped (run (stepOf rule) (go (start rule)) w)
-
-    pub code-remembered : (w : List ℕ) → ruleTrips (onParts partTrips rule) w ≡ false
-        → run (codeStepOf rule) (go (encode rule (start rule))) w ≡ go (encode rule (remembered rule w))
-    code-remembered w e =
-        code-run w ∙ ap (encodeMove rule) (steps-right rule (fit-sound rule fit) w ∙ ap (λ (b : Bool). answer b (remembered rule w)) e)
-
-    -- an action behind a sequence that has not tripped leads to the number of what is remembered of the longer sequence
-    pub code-next : (w : List ℕ) (a : ℕ) → ruleTrips (onParts partTrips rule) w ≡ false
-        → codeStepOf rule (encode rule (remembered rule w)) a
-        ≡ encodeMove rule (answer (ruleTrips (onParts partTrips rule) (w ++ (a ∷ []))) (remembered rule (w ++ (a ∷ []))))
-    code-next w a e =
-        code-step (remembered rule w) a (remembered-fits w e) ∙ ap (encodeMove rule) (step-right rule (fit-sound rule fit) w a e)

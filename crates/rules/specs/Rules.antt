@@ -2,19 +2,21 @@
 -- Assumes nothing.
 use mathlib.Core.Path.{_≡_}
 use mathlib.Core.List.{List}
-use Prim.Native.Nat.{ℕ, _+_, _*_, _≤_, _<_}
+use Prim.Native.Nat.{ℕ, _*_, _≤_, _<_}
 use lib.ListN.{length, getD, take, drop}
 use Rattle.trace.specs.Trace.{Move, trip, go}
 use Rattle.automaton.specs.Machine.{transition}
 use Rattle.policy.specs.Formula.{bit}
 use Rattle.policy.specs.Value.{Part}
 use Rattle.policy.specs.Parts.{AllParts}
-use Rattle.policy.specs.Rule.{opening, counting, same, both, either, copied, until, then, timed, filtered, onParts}
-use Rattle.policy.specs.Rule as P
-use Rattle.rules.specs.declared.Rule.{Rule}
-use Rattle.rules.specs.declared.Rule.the-variants.{Opening, Counting, Same, Both, Either, Copied, Until, Then, Timed, Filtered}
-use Rattle.rules.specs.declared.Moved.{Moved}
-use Rattle.rules.specs.declared.Moved.the-variants.{Trip, Go}
+use Rattle.policy.specs.Rule.{Rule, opening, counting, same, both, either, copied, until, then, timed, filtered, onParts}
+use Rattle.rules.specs.declared.NodeRule.{NodeRule}
+use Rattle.rules.specs.declared.NodeRule.the-variants.{Opening, Counting, Same, Both, Either, Copied, Until, Then, Timed, Filtered}
+use Rattle.rules.specs.declared.Lowered.{Lowered}
+use Rattle.rules.specs.declared.Lowered.the-variants.{AsFormula, AsRule}
+use Rattle.rules.specs.declared.RuleAt.{RuleAt}
+use Rattle.rules.specs.declared.ValueMove.{ValueMove}
+use Rattle.rules.specs.declared.ValueMove.the-variants.{Trip, Go}
 
 -- The bytes of a node's rows.
 abbrev pub slotAt : List ℕ → ℕ → List ℕ
@@ -25,7 +27,7 @@ abbrev pub partAt : (actions : ℕ) → List ℕ → ℕ → Part
 partAt actions work i = transition 255 actions (slotAt work i)
 
 -- The rule that the code's value stands for. Bit a of a set says whether action a satisfies the formula.
-abbrev pub ruleOver : Rule → P.Rule ℕ
+abbrev pub ruleOver : NodeRule → Rule ℕ
 ruleOver (Opening set) = opening (λ a. bit set a)
 ruleOver (Counting k) = counting k
 ruleOver (Same a) = same a
@@ -38,10 +40,15 @@ ruleOver (Timed k a b c) = timed k a b c
 ruleOver (Filtered set b) = filtered (λ a. bit set a) b
 
 -- The same over the parts' machines.
-abbrev pub machineRule : (actions : ℕ) → List ℕ → Rule → P.Rule Part
+abbrev pub machineRule : (actions : ℕ) → List ℕ → NodeRule → Rule Part
 machineRule actions work rule = onParts (partAt actions work) (ruleOver rule)
 
-abbrev pub moveOf : Moved → Move ℕ
+-- What node i of a list is lowered to. Past the list's end there is no rule.
+abbrev pub ruleAt : List RuleAt → ℕ → Lowered
+ruleAt rules i = getD rules i (record { of = AsFormula }) .of
+
+-- Where the code's answer leads.
+abbrev pub moveOf : ValueMove → Move ℕ
 moveOf Trip = trip
 moveOf (Go v) = go v
 
@@ -50,7 +57,13 @@ pub record Readable (work : List ℕ) (i : ℕ) : Type 0 where
   pub node : i < 64
   pub entries : (k : ℕ) → (getD (slotAt work i) k 255 ≡ 255 → ⊥) → getD (slotAt work i) k 255 < 64
 
--- What a step is lent: the whole work area, parts that can be read, and counts as sheets have them.
-pub record Steppable (work : List ℕ) (rule : Rule) : Type 0 where
+-- What a step is lent: the whole work area, and parts that can be read.
+pub record Steppable (work : List ℕ) (rule : NodeRule) : Type 0 where
   pub room : 65536 ≤ length work
   pub parts : AllParts (Readable work) (ruleOver rule)
+
+-- A part of node n in a list: an earlier node that is a rule.
+pub record EarlierRule (rules : List RuleAt) (n i : ℕ) : Type 0 where
+  pub before : i < n
+  pub rule : NodeRule
+  pub is : ruleAt rules i ≡ AsRule rule

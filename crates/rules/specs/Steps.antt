@@ -3,22 +3,22 @@
 use mathlib.Core.List.{List}
 use Prim.Native.Nat.{ℕ}
 use Rattle.trace.specs.Trace.{Move, trip, go, Step}
-use Rattle.policy.specs.Rule as P
+use Rattle.policy.specs.Rule.{Rule}
 use Rattle.policy.specs.Value.{Part, Value, start, stepOf}
 use Rattle.rules.specs.Codes.{encode, decode}
 use Rattle.rules.specs.Rules.{machineRule}
-use Rattle.rules.specs.declared.Rule.{Rule}
+use Rattle.rules.specs.declared.NodeRule.{NodeRule}
 
-abbrev pub encodeMove : (rule : P.Rule Part) → Move (Value rule) → Move ℕ
+abbrev pub encodeMove : (rule : Rule Part) → Move (Value rule) → Move ℕ
 encodeMove rule trip = trip
 encodeMove rule (go v) = go (encode rule v)
 
 -- The step of a rule on numbers: decoded, moved, encoded.
-abbrev pub codeStepOf : (rule : P.Rule Part) → Step ℕ
+abbrev pub codeStepOf : (rule : Rule Part) → Step ℕ
 codeStepOf rule c a = encodeMove rule (stepOf rule (decode rule c) a)
 
-abbrev pub codeStep : (actions : ℕ) → List ℕ → Rule → Step ℕ
+abbrev pub codeStep : (actions : ℕ) → List ℕ → NodeRule → Step ℕ
 codeStep actions work rule = codeStepOf (machineRule actions work rule)
 
-abbrev pub codeStart : (actions : ℕ) → List ℕ → Rule → ℕ
+abbrev pub codeStart : (actions : ℕ) → List ℕ → NodeRule → ℕ
 codeStart actions work rule = encode (machineRule actions work rule) (start (machineRule actions work rule))

@@ -7,21 +7,32 @@ pub use steps::start;
 pub use steps::step;
 
 // A node's rule over the numbers of its parts. A set of 16 bits says which actions satisfy a formula.
-pub enum Rule {
+pub enum NodeRule {
     Opening(u16),
-    Counting(usize),
-    Same(usize),
-    Both(usize, usize),
-    Either(usize, usize),
-    Copied(usize),
-    Until(usize, usize),
-    Then(usize, usize),
-    Timed(usize, usize, usize, usize),
-    Filtered(u16, usize),
+    Counting(u8),
+    Same(u8),
+    Both(u8, u8),
+    Either(u8, u8),
+    Copied(u8),
+    Until(u8, u8),
+    Then(u8, u8),
+    Timed(u8, u8, u8, u8),
+    Filtered(u16, u8),
 }
 
 // Where an action leads: a trip, or the next remembered value as a number.
-pub enum Moved {
+pub enum ValueMove {
     Trip,
     Go(u64),
+}
+
+// What a node is lowered to: an action formula, which has no rows, or a rule, whose rows are built.
+pub enum Lowered {
+    AsFormula,
+    AsRule(NodeRule),
+}
+
+// The same in an array's element.
+pub struct RuleAt {
+    pub of: Lowered,
 }

@@ -1,5 +1,5 @@
 // Sets of rows as numbers: all copies of a part moved by an action.
-use crate::Moved;
+use crate::ValueMove;
 use crate::parts::part_move;
 ghost use mathlib.Core.Path.{_≡_};
 ghost use Prim.Native.Nat.{_≤_, _<_};
@@ -16,7 +16,7 @@ fn with_row(set: u64, row: u64) -> u64
 }
 
 // All copies moved by an action, and a copy beginning now. The lowest row left is found by trailing zeros.
-pub fn move_all(work: &[u8], actions: usize, i: usize, set: u64, action: usize) -> Moved
+pub fn move_copies(work: &[u8], actions: usize, i: u8, set: u64, action: usize) -> ValueMove
     requires { ⌜ (65536 ≤ length (now work)) × Readable (now work) i × (actions ≤ 16) × (action < actions) ⌝ }
     ensures { λ r. ⌜ moveOf r ≡ moveAll (partAt actions (now (work .entry)) i) set action ⌝ }
 {
@@ -25,14 +25,14 @@ pub fn move_all(work: &[u8], actions: usize, i: usize, set: u64, action: usize) 
     while rest != 0 {
         let row = u64::trailing_zeros(rest) as usize;
         match part_move(work, actions, i, row, action) {
-            Moved::Trip => {
-                return Moved::Trip;
+            ValueMove::Trip => {
+                return ValueMove::Trip;
             }
-            Moved::Go(next) => {
+            ValueMove::Go(next) => {
                 moved = with_row(moved, next);
             }
         }
         rest = rest & (rest - 1);
     }
-    Moved::Go(moved)
+    ValueMove::Go(moved)
 }

@@ -1,13 +1,13 @@
 // The step of a rule, by what the rule is. A value is taken apart into bytes, the parts are moved, and the next value is put together.
-use crate::Moved;
-use crate::Rule;
+use crate::NodeRule;
+use crate::ValueMove;
 use crate::parts::entry_at;
 use crate::parts::part_move;
-use crate::sets::move_all;
+use crate::sets::move_copies;
 ghost use mathlib.Core.Path.{_≡_};
 ghost use Prim.Native.Nat.{_+_, _≤_, _<_};
 ghost use lib.ListN.{length};
-ghost use Rattle.trace.specs.Trace.{after};
+ghost use Rattle.trace.specs.Trace.{go, after};
 ghost use Rattle.policy.specs.Closed.{Below};
 ghost use Rattle.policy.specs.Formula.{bit};
 ghost use Rattle.policy.specs.Rule.{opening, counting};
@@ -17,12 +17,12 @@ ghost use Rattle.rules.specs.Rules.{partAt, moveOf, Readable, Steppable}
 ghost use Rattle.rules.specs.Steps.{codeStep, codeStepOf, codeStart};
 
 // The value before any action.
-pub fn start(rule: Rule, work: &[u8], actions: usize) -> u64
+pub fn start(rule: NodeRule, work: &[u8], actions: usize) -> u64
     ensures { λ r. ⌜ r ≡ codeStart actions (now (work .entry)) rule ⌝ }
 {
     match rule {
-        Rule::Copied(_) => 1,
-        Rule::Timed(k, _, _, _) => { if k == 0 { 131072 } else { 0 } }
+        NodeRule::Copied(_) => 1,
+        NodeRule::Timed(k, _, _, _) => { if k == 0 { 131072 } else { 0 } }
         _ => 0,
     }
 }
@@ -35,31 +35,31 @@ fn in_set(set: u16, action: usize) -> bool
     (set >> action) % 2 == 1
 }
 
-fn opening_step(set: u16, value: u64, action: usize) -> Moved
+fn opening_step(set: u16, value: u64, action: usize) -> ValueMove
     requires { ⌜ action < 16 ⌝ }
     ensures { λ r. ⌜ moveOf r ≡ codeStepOf (opening (bit set)) value action ⌝ }
 {
     if value == 0 {
         if in_set(set, action) {
-            return Moved::Trip;
+            return ValueMove::Trip;
         }
     }
-    Moved::Go(1)
+    ValueMove::Go(1)
 }
 
-fn counting_step(k: usize, value: u64, action: usize) -> Moved
+fn counting_step(k: u8, value: u64, action: usize) -> ValueMove
     ensures { λ r. ⌜ moveOf r ≡ codeStepOf (counting k) value action ⌝ }
 {
     let sofar = value as usize % 256 + 1;
-    if k <= sofar {
-        Moved::Trip
+    if k as usize <= sofar {
+        ValueMove::Trip
     } else {
-        Moved::Go(sofar as u64)
+        ValueMove::Go(sofar as u64)
     }
 }
 
 // Where an action leads from a row that a byte names: to a row below 64, or a trip.
-fn row_move(work: &[u8], actions: usize, i: usize, row: u64, action: usize) -> Moved
+fn row_move(work: &[u8], actions: usize, i: u8, row: u64, action: usize) -> ValueMove
     requires { ⌜ (65536 ≤ length (now work)) × Readable (now work) i × (actions ≤ 16) × (action < actions) × (row < 256) ⌝ }
     ensures { λ r. ⌜ (moveOf r ≡ partAt actions (now (work .entry)) i row action) × Below 64 (moveOf r) ⌝ }
 {
@@ -67,7 +67,7 @@ fn row_move(work: &[u8], actions: usize, i: usize, row: u64, action: usize) -> M
 }
 
 // A part's row or trip behind an action, as a byte: a part that has tripped stays so.
-fn place_after(work: &[u8], actions: usize, i: usize, place: u64, action: usize) -> u8
+fn place_after(work: &[u8], actions: usize, i: u8, place: u64, action: usize) -> u8
     requires { ⌜ (65536 ≤ length (now work)) × (i < 64) × (actions ≤ 16) × (action < actions) × (place < 256) ⌝ }
     ensures { λ r. ⌜ codePlace r ≡ after (codePlace place) (λ q. partAt actions (now (work .entry)) i q action) ⌝ }
 {
@@ -77,90 +77,97 @@ fn place_after(work: &[u8], actions: usize, i: usize, place: u64, action: usize)
     entry_at(work, i, place as usize * actions + action)
 }
 
-fn both_step(work: &[u8], actions: usize, i: usize, j: usize, value: u64, action: usize) -> Moved
-    requires { ⌜ Steppable (now work) (Rule.Both i j) × (actions ≤ 16) × (action < actions) ⌝ }
-    ensures { λ r. ⌜ moveOf r ≡ codeStep actions (now (work .entry)) (Rule.Both i j) value action ⌝ }
+fn both_step(work: &[u8], actions: usize, i: u8, j: u8, value: u64, action: usize) -> ValueMove
+    requires { ⌜ Steppable (now work) (NodeRule.Both i j) × (actions ≤ 16) × (action < actions) ⌝ }
+    ensures { λ r. ⌜ moveOf r ≡ codeStep actions (now (work .entry)) (NodeRule.Both i j) value action ⌝ }
 {
     let left = place_after(work, actions, i, value / 256 % 256, action) as u64;
     let right = place_after(work, actions, j, value % 256, action) as u64;
     let pair = left * 256 + right;
     if pair == 65535 {
-        Moved::Trip
+        ValueMove::Trip
     } else {
-        Moved::Go(pair)
+        ValueMove::Go(pair)
     }
 }
 
-fn either_step(work: &[u8], actions: usize, i: usize, j: usize, value: u64, action: usize) -> Moved
-    requires { ⌜ Steppable (now work) (Rule.Either i j) × (actions ≤ 16) × (action < actions) ⌝ }
-    ensures { λ r. ⌜ moveOf r ≡ codeStep actions (now (work .entry)) (Rule.Either i j) value action ⌝ }
+fn either_step(work: &[u8], actions: usize, i: u8, j: u8, value: u64, action: usize) -> ValueMove
+    requires { ⌜ Steppable (now work) (NodeRule.Either i j) × (actions ≤ 16) × (action < actions) ⌝ }
+    ensures { λ r. ⌜ moveOf r ≡ codeStep actions (now (work .entry)) (NodeRule.Either i j) value action ⌝ }
 {
     let left = place_after(work, actions, i, value / 256 % 256, action) as u64;
     let right = place_after(work, actions, j, value % 256, action) as u64;
     if left == 255 {
-        return Moved::Trip;
+        return ValueMove::Trip;
     }
     if right == 255 {
-        return Moved::Trip;
+        return ValueMove::Trip;
     }
-    Moved::Go(left * 256 + right)
+    ValueMove::Go(left * 256 + right)
 }
 
 // b is judged on the very action that fulfils a, and only then released.
-fn until_step(work: &[u8], actions: usize, i: usize, j: usize, value: u64, action: usize) -> Moved
-    requires { ⌜ Steppable (now work) (Rule.Until i j) × (actions ≤ 16) × (action < actions) ⌝ }
-    ensures { λ r. ⌜ moveOf r ≡ codeStep actions (now (work .entry)) (Rule.Until i j) value action ⌝ }
+fn until_step(work: &[u8], actions: usize, i: u8, j: u8, value: u64, action: usize) -> ValueMove
+    requires { ⌜ Steppable (now work) (NodeRule.Until i j) × (actions ≤ 16) × (action < actions) ⌝ }
+    ensures { λ r. ⌜ moveOf r ≡ codeStep actions (now (work .entry)) (NodeRule.Until i j) value action ⌝ }
 {
     if value == 65535 {
-        return Moved::Go(65535);
+        return ValueMove::Go(65535);
     }
     match row_move(work, actions, j, value % 256, action) {
-        Moved::Trip => Moved::Trip,
-        Moved::Go(r) => match row_move(work, actions, i, value / 256 % 256, action) {
-            Moved::Trip => Moved::Go(65535),
-            Moved::Go(q) => Moved::Go(q * 256 + r),
+        ValueMove::Trip => ValueMove::Trip,
+        ValueMove::Go(r) => match row_move(work, actions, i, value / 256 % 256, action) {
+            ValueMove::Trip => ValueMove::Go(65535),
+            ValueMove::Go(q) => ValueMove::Go(q * 256 + r),
         },
     }
 }
 
 // A part's move, its row under a mark.
-fn marked_move(work: &[u8], actions: usize, i: usize, mark: u64, row: u64, action: usize) -> Moved
+fn marked_move(work: &[u8], actions: usize, i: u8, mark: u64, row: u64, action: usize) -> ValueMove
     requires { ⌜ (65536 ≤ length (now work)) × Readable (now work) i × (actions ≤ 16) × (action < actions) × (mark ≤ 131072) × (row < 256) ⌝ }
     ensures { λ r. ⌜ moveOf r ≡ goWith (λ q. mark + q) (partAt actions (now (work .entry)) i row action) ⌝ }
 {
-    let Moved::Go(r) = row_move(work, actions, i, row, action) else {
-        return Moved::Trip;
+    let ValueMove::Go(r) = row_move(work, actions, i, row, action) else {
+        return ValueMove::Trip;
     };
-    Moved::Go(mark + r)
+    ValueMove::Go(mark + r)
+}
+
+// A part begins behind the action that is read: its first row, under a mark.
+fn begun(mark: u64) -> ValueMove
+    ensures { λ r. ⌜ moveOf r ≡ go mark ⌝ }
+{
+    ValueMove::Go(mark)
 }
 
 // b starts on the action behind the one that fulfils a.
-fn then_step(work: &[u8], actions: usize, i: usize, j: usize, value: u64, action: usize) -> Moved
-    requires { ⌜ Steppable (now work) (Rule.Then i j) × (actions ≤ 16) × (action < actions) ⌝ }
-    ensures { λ r. ⌜ moveOf r ≡ codeStep actions (now (work .entry)) (Rule.Then i j) value action ⌝ }
+fn then_step(work: &[u8], actions: usize, i: u8, j: u8, value: u64, action: usize) -> ValueMove
+    requires { ⌜ Steppable (now work) (NodeRule.Then i j) × (actions ≤ 16) × (action < actions) ⌝ }
+    ensures { λ r. ⌜ moveOf r ≡ codeStep actions (now (work .entry)) (NodeRule.Then i j) value action ⌝ }
 {
     let row = value % 256;
     if value / 256 % 256 != 0 {
         return marked_move(work, actions, j, 256, row, action);
     }
     match row_move(work, actions, i, row, action) {
-        Moved::Trip => Moved::Go(256),
-        Moved::Go(q) => Moved::Go(q),
+        ValueMove::Trip => begun(256),
+        ValueMove::Go(q) => ValueMove::Go(q),
     }
 }
 
 fn timed_step(
     work: &[u8],
     actions: usize,
-    k: usize,
-    i: usize,
-    j: usize,
-    l: usize,
+    k: u8,
+    i: u8,
+    j: u8,
+    l: u8,
     value: u64,
     action: usize,
-) -> Moved
-    requires { ⌜ Steppable (now work) (Rule.Timed k i j l) × (actions ≤ 16) × (action < actions) ⌝ }
-    ensures { λ r. ⌜ moveOf r ≡ codeStep actions (now (work .entry)) (Rule.Timed k i j l) value action ⌝ }
+) -> ValueMove
+    requires { ⌜ Steppable (now work) (NodeRule.Timed k i j l) × (actions ≤ 16) × (action < actions) ⌝ }
+    ensures { λ r. ⌜ moveOf r ≡ codeStep actions (now (work .entry)) (NodeRule.Timed k i j l) value action ⌝ }
 {
     let low = value % 256;
     let phase = value / 65536 % 256;
@@ -171,13 +178,13 @@ fn timed_step(
         return marked_move(work, actions, l, 131072, low, action);
     }
     match row_move(work, actions, i, value / 256 % 256, action) {
-        Moved::Trip => Moved::Go(65536),
-        Moved::Go(q) => {
+        ValueMove::Trip => begun(65536),
+        ValueMove::Go(q) => {
             let sofar = low + 1;
             if k as u64 <= sofar {
-                Moved::Go(131072)
+                begun(131072)
             } else {
-                Moved::Go(q * 256 + sofar)
+                ValueMove::Go(q * 256 + sofar)
             }
         }
     }
@@ -187,35 +194,35 @@ fn filtered_step(
     work: &[u8],
     actions: usize,
     set: u16,
-    i: usize,
+    i: u8,
     value: u64,
     action: usize,
-) -> Moved
-    requires { ⌜ Steppable (now work) (Rule.Filtered set i) × (actions ≤ 16) × (action < actions) ⌝ }
-    ensures { λ r. ⌜ moveOf r ≡ codeStep actions (now (work .entry)) (Rule.Filtered set i) value action ⌝ }
+) -> ValueMove
+    requires { ⌜ Steppable (now work) (NodeRule.Filtered set i) × (actions ≤ 16) × (action < actions) ⌝ }
+    ensures { λ r. ⌜ moveOf r ≡ codeStep actions (now (work .entry)) (NodeRule.Filtered set i) value action ⌝ }
 {
     let row = value % 256;
     if in_set(set, action) {
-        return Moved::Go(row);
+        return ValueMove::Go(row);
     }
     row_move(work, actions, i, row, action)
 }
 
 // Where an action leads from a remembered value.
-pub fn step(rule: Rule, work: &[u8], actions: usize, value: u64, action: usize) -> Moved
+pub fn step(rule: NodeRule, work: &[u8], actions: usize, value: u64, action: usize) -> ValueMove
     requires { ⌜ Steppable (now work) rule × (actions ≤ 16) × (action < actions) ⌝ }
     ensures { λ r. ⌜ moveOf r ≡ codeStep actions (now (work .entry)) rule value action ⌝ }
 {
     match rule {
-        Rule::Opening(set) => opening_step(set, value, action),
-        Rule::Counting(k) => counting_step(k, value, action),
-        Rule::Same(i) => row_move(work, actions, i, value % 256, action),
-        Rule::Both(i, j) => both_step(work, actions, i, j, value, action),
-        Rule::Either(i, j) => either_step(work, actions, i, j, value, action),
-        Rule::Copied(i) => move_all(work, actions, i, value, action),
-        Rule::Until(i, j) => until_step(work, actions, i, j, value, action),
-        Rule::Then(i, j) => then_step(work, actions, i, j, value, action),
-        Rule::Timed(k, i, j, l) => timed_step(work, actions, k, i, j, l, value, action),
-        Rule::Filtered(set, i) => filtered_step(work, actions, set, i, value, action),
+        NodeRule::Opening(set) => opening_step(set, value, action),
+        NodeRule::Counting(k) => counting_step(k, value, action),
+        NodeRule::Same(i) => row_move(work, actions, i, value % 256, action),
+        NodeRule::Both(i, j) => both_step(work, actions, i, j, value, action),
+        NodeRule::Either(i, j) => either_step(work, actions, i, j, value, action),
+        NodeRule::Copied(i) => move_copies(work, actions, i, value, action),
+        NodeRule::Until(i, j) => until_step(work, actions, i, j, value, action),
+        NodeRule::Then(i, j) => then_step(work, actions, i, j, value, action),
+        NodeRule::Timed(k, i, j, l) => timed_step(work, actions, k, i, j, l, value, action),
+        NodeRule::Filtered(set, i) => filtered_step(work, actions, set, i, value, action),
     }
 }

@@ -1,38 +1,20 @@
 -- Checks 1 to 3: their tests in plain statements, and the places that they give.
 -- Assumes nothing.
-use mathlib.Core.Path.{_≡_, refl, sym}
-use mathlib.Core.Bool.{Bool, true, false, cond, _&&_, _||_}
-use mathlib.Core.Logic.{_⊎_, inl, inr, ⊎-map}
+use mathlib.Core.Path.{_≡_, refl}
+use mathlib.Core.Bool.{Bool, true, false, cond, _&&_}
+use mathlib.Core.Logic.{_⊎_, ⊎-map}
 use mathlib.Core.List.{List}
 use Prim.Native.Nat.{ℕ, _<_}
 use native.Mathlib.Omega.{arith}
 use lib.Dec.{leb, eqb}
 use lib.ListN.{length}
 use borrow.Author.Tests.{leb-true, le-leb, eqb-true, eq-eqb}
-use Rattle.trace.proofs.Laws.{not-both}
-use Rattle.sheet.specs.Sheet.{actionCount, nodeCount, actionsAt, nodesAt, actionsEnd, nodesEnd, total, lengthRight, countsRight, areasRight, behindHeader, insideTotal, apart, inRange}
-use Rattle.sheet.specs.Judge.{layoutOf, NodesLaid}
-use Rattle.sheet.specs.Plain.{WellLaid}
+use Rattle.base.proofs.Truths.{and-true, both-true, or-true, either-true}
+use Rattle.sheet.specs.Layout.{actionCount, nodeCount, actionsAt, nodesAt, actionsEnd, nodesEnd, total, lengthRight, countsRight, areasRight, behindHeader, insideTotal, apart, inRange, layoutOf, WellLaid, Inside}
 use Rattle.sheet.specs.declared.Layout.{Layout}
 use Rattle.sheet.specs.declared.Layout.the-variants.{Laid, Misplaced}
-use Rattle.sheet.specs.declared.Fault.{Fault}
-use Rattle.sheet.specs.declared.Fault.the-variants.{Length, Counts, Areas}
-
-pub and-true : (a b : Bool) → a && b ≡ true → (a ≡ true) × (b ≡ true)
-and-true true b e = (refl, e)
-and-true false b e = not-both (sym e)
-
-pub both-true : {a b : Bool} → a ≡ true → b ≡ true → a && b ≡ true
-both-true p q = rw (p, q)
-
-or-true : (a b : Bool) → a || b ≡ true → (a ≡ true) ⊎ (b ≡ true)
-or-true true b e = inl refl
-or-true false b e = inr e
-
-either-true : (a b : Bool) → (a ≡ true) ⊎ (b ≡ true) → a || b ≡ true
-either-true true b h = refl
-either-true false b (inl e) = not-both (sym e)
-either-true false b (inr e) = e
+use Rattle.syntax.specs.declared.Fault.{Fault}
+use Rattle.syntax.specs.declared.Fault.the-variants.{Length, Counts, Areas}
 
 pub long-enough : (bytes : List ℕ) → lengthRight bytes ≡ true → 9 < length bytes
 long-enough bytes e = leb-true 10 (length bytes) (and-true _ (eqb (total bytes) (length bytes)) e .0)
@@ -48,7 +30,7 @@ from-conds true false z e = misplaced e
 from-conds false y z e = misplaced e
 
 module _ (bytes : List ℕ) where
-  pub well-laid : lengthRight bytes ≡ true → countsRight bytes ≡ true → areasRight bytes ≡ true → WellLaid bytes
+  well-laid : lengthRight bytes ≡ true → countsRight bytes ≡ true → areasRight bytes ≡ true → WellLaid bytes
   well-laid l c a =
       let l′ = and-true (leb 10 (length bytes)) (eqb (total bytes) (length bytes)) l in
       let c′ = and-true (inRange 1 16 (actionCount bytes)) (inRange 1 64 (nodeCount bytes)) c in
@@ -72,15 +54,15 @@ module _ (bytes : List ℕ) where
         apart = ⊎-map (leb-true (actionsEnd bytes) (nodesAt bytes)) (leb-true (nodesEnd bytes) (actionsAt bytes)) (or-true (leb (actionsEnd bytes) (nodesAt bytes)) (leb (nodesEnd bytes) (actionsAt bytes)) (a′ .1));
       }
 
-  pub length-right : WellLaid bytes → lengthRight bytes ≡ true
+  length-right : WellLaid bytes → lengthRight bytes ≡ true
   length-right w = both-true (le-leb 10 (length bytes) (w .long)) (eq-eqb (total bytes) (length bytes) (w .whole))
 
-  pub counts-right : WellLaid bytes → countsRight bytes ≡ true
+  counts-right : WellLaid bytes → countsRight bytes ≡ true
   counts-right w =
       both-true (both-true (le-leb 1 (actionCount bytes) (w .some-action)) (le-leb (actionCount bytes) 16 (w .few-actions)))
       (both-true (le-leb 1 (nodeCount bytes) (w .some-node)) (le-leb (nodeCount bytes) 64 (w .few-nodes)))
 
-  pub areas-right : WellLaid bytes → areasRight bytes ≡ true
+  areas-right : WellLaid bytes → areasRight bytes ≡ true
   areas-right w =
       both-true
       (both-true (both-true (le-leb 10 (actionsAt bytes) (w .actions-behind)) (le-leb 10 (nodesAt bytes) (w .nodes-behind)))
@@ -99,13 +81,15 @@ module _ (bytes : List ℕ) where
       let g = h .3 in
       (well-laid (h .0) (h .1) (h .2), (cc), (cc), (cc), (cc))
 
-  pub nodes-laid : {a n p q : ℕ} → layoutOf bytes ≡ Laid a n p q → NodesLaid bytes n q
-  nodes-laid e =
+  -- the two areas lie inside the bytes
+  pub actions-within : {a n p q : ℕ} → layoutOf bytes ≡ Laid a n p q → Inside bytes p 2 a 16
+  actions-within e =
       let h = from-laid e in
       let w = h .0 in
-      record {
-        from = h .4;
-        some = omega (arith, w .some-node, h .2);
-        few = omega (arith, w .few-nodes, h .2);
-        inside = omega (arith, w .nodes-inside, w .whole, h .2, h .4);
-      }
+      record { few = omega (arith, w .few-actions, h .1); inside = omega (arith, w .actions-inside, w .whole, h .1, h .3) }
+
+  pub nodes-within : {a n p q : ℕ} → layoutOf bytes ≡ Laid a n p q → Inside bytes q 5 n 64
+  nodes-within e =
+      let h = from-laid e in
+      let w = h .0 in
+      record { few = omega (arith, w .few-nodes, h .2); inside = omega (arith, w .nodes-inside, w .whole, h .2, h .4) }

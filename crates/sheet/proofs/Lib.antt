@@ -1,7 +1,11 @@
-pub mod Agreement
 pub mod Header
-pub mod Meanings
-pub mod Modes
-pub mod Outcomes
-pub mod Parts
-pub mod Sound
+pub mod ReadNodes
+pub mod Judging
+pub mod Fields
+pub mod ReadFrom
+pub mod NodeByNode
+pub mod Spots
+pub mod Written
+pub mod NodeBack
+pub mod ReadBack
+pub mod Unread

@@ -1,6 +1,5 @@
-pub mod Sheet
-pub mod Node
-pub mod Types
+pub mod Layout
+pub mod Reading
+pub mod ReadFrom
 pub mod Judge
-pub mod Meaning
-pub mod Plain
+pub mod Writing

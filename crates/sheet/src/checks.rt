@@ -1,99 +1,107 @@
 // Checks 1 to 7 of a sheet, in their order.
-use crate::Fault;
-use crate::Judged;
 use crate::JudgedSheet;
 use crate::Layout;
-use crate::NodeRead;
-use crate::NodeType;
-use crate::TypeFound;
-use crate::TypedNode;
+use crate::NodesRead;
+use crate::SheetFound;
 use crate::layouts::find_layout;
-use crate::nodes::read_node;
-use crate::types::type_at;
-use crate::types::type_node;
+use crate::reading::blank_actions;
+use crate::reading::blank_nodes;
+use crate::reading::read_actions;
+use crate::reading::read_nodes;
+use syntax::Fault;
+use syntax::Judged;
+use syntax::NodeType;
+use syntax::Sheet;
+use syntax::TypedNode;
+use syntax::blank_types;
+use syntax::type_at;
+use syntax::type_nodes;
 ghost use mathlib.Core.Path.{_≡_};
-ghost use Rattle.sheet.specs.Sheet.{nodeCount};
-ghost use Rattle.sheet.specs.Judge.{NodesLaid, faulty, readFault, typeFault, judgeAll, outcomeOf, CountRight};
-ghost use Rattle.sheet.specs.declared.Judged.the-variants.{Faulty};
-
-// The fault of a node that fails check 4 or 5.
-fn read_fault(read: NodeRead, n: usize) -> Fault
-    ensures { λ r. ⌜ r ≡ readFault n read ⌝ }
-{
-    match read {
-        NodeRead::Read(_) => Fault::WrongFieldAt(n),
-        NodeRead::UnknownKind => Fault::UnknownKindAt(n),
-        NodeRead::WrongField => Fault::WrongFieldAt(n),
-    }
-}
-
-// The fault of a node that fails check 6 or 7.
-fn type_fault(found: TypeFound, n: usize) -> Fault
-    ensures { λ r. ⌜ r ≡ typeFault n found ⌝ }
-{
-    match found {
-        TypeFound::Fits(_) => Fault::WrongTypeAt(n),
-        TypeFound::Unfit => Fault::WrongTypeAt(n),
-        TypeFound::TooLong => Fault::BoundAt(n),
-    }
-}
+ghost use Prim.Native.Nat.{_-_, _≤_};
+ghost use Rattle.syntax.specs.Types.{typeAt};
+ghost use Rattle.syntax.specs.Typed.{faulty, judgeLast};
+ghost use Rattle.sheet.specs.Judge.{judgeRead, judgedSheet, ReadWithin};
 
 // A sheet with a fault.
 fn refused(fault: Fault) -> JudgedSheet
-    ensures { λ r. ⌜ outcomeOf r ≡ faulty fault ⌝ }
-    ensures { λ r. ⌜ r .judged ≡ Faulty fault ⌝ }
+    ensures { λ r. ⌜ r ≡ judgedSheet (faulty fault) ⌝ }
 {
+    let propositions = blank_actions();
+    let nodes = blank_nodes();
     JudgedSheet {
-        judged: Judged::Faulty(fault),
-        types: [TypedNode {
-            of: NodeType::Formula,
-        }; 64],
+        found: SheetFound::NotSound(fault),
+        sheet: Sheet {
+            actions: 0,
+            propositions,
+            count: 0,
+            nodes,
+        },
+        types: blank_types(),
     }
 }
 
-// The nodes, one by one, and that the last is a policy.
-fn judge_nodes(bytes: &[u8], nodes: usize, start: usize) -> JudgedSheet
-    requires { ⌜ NodesLaid (now bytes) nodes start ⌝ }
-    ensures { λ r. ⌜ outcomeOf r ≡ judgeAll (now (bytes .entry)) nodes ⌝ }
-    ensures { λ r. ⌜ CountRight nodes (r .judged) ⌝ }
+// The last node's 6.
+fn judge_last(sheet: Sheet, types: [TypedNode; 64]) -> JudgedSheet
+    requires { ⌜ 1 ≤ sheet .count ⌝ }
+    ensures { λ r. ⌜ r ≡ judgedSheet (judgeLast sheet types (typeAt types (sheet .count - 1))) ⌝ }
 {
-    let mut types = [TypedNode {
-        of: NodeType::Formula,
-    }; 64];
-    let mut n = 0;
-    while n < nodes {
-        let read = read_node(bytes, start + 5 * n, n);
-        let NodeRead::Read(node) = read else {
-            return refused(read_fault(read, n));
-        };
-        let found = type_node(node, types);
-        let TypeFound::Fits(t) = found else {
-            return refused(type_fault(found, n));
-        };
-        types[n] = TypedNode { of: t };
-        n += 1;
+    let last = sheet.count - 1;
+    match type_at(types, last) {
+        NodeType::Formula => refused(Fault::WrongTypeAt(last)),
+        NodeType::Policy(mode, _) => JudgedSheet {
+            found: SheetFound::Policy(mode),
+            sheet,
+            types,
+        },
     }
-    let NodeType::Policy(_, _) = type_at(types, nodes - 1) else {
-        return refused(Fault::WrongTypeAt(nodes - 1));
-    };
-    JudgedSheet {
-        judged: Judged::Sound(nodes),
+}
+
+// Checks 6 and 7 of the nodes that were read, then the fault of the one behind them, or the last node's 6.
+fn judge_read(actions: usize, propositions: [u16; 16], count: usize, read: NodesRead) -> JudgedSheet
+    requires { ⌜ ReadWithin count read ⌝ }
+    ensures { λ r. ⌜ r ≡ judgedSheet (judgeRead actions propositions count read) ⌝ }
+{
+    let nodes = read.nodes;
+    let typing = type_nodes(nodes, read.count);
+    let typed = typing.judged;
+    if let Judged::Faulty(fault) = typed {
+        return refused(fault);
+    }
+    let judged = read.judged;
+    if let Judged::Faulty(fault) = judged {
+        return refused(fault);
+    }
+    let types = typing.types;
+    judge_last(
+        Sheet {
+            actions,
+            propositions,
+            count,
+            nodes,
+        },
         types,
-    }
+    )
 }
 
-// The first fault of any bytes, or none and the types of the nodes.
+// The first fault of any bytes, or none, with the sheet and the types of its nodes.
 pub fn judge(bytes: &[u8]) -> JudgedSheet
-    ensures { λ r. ⌜ outcomeOf r ≡ Rattle.sheet.specs.Judge.judge (now (bytes .entry)) ⌝ }
-    ensures { λ r. ⌜ CountRight (nodeCount (now (bytes .entry))) (r .judged) ⌝ }
+    ensures { λ r. ⌜ r ≡ judgedSheet (Rattle.sheet.specs.Judge.judge (now (bytes .entry))) ⌝ }
 {
     match find_layout(bytes) {
-        Layout::Laid {
-            actions: _,
-            nodes,
-            actions_at: _,
-            nodes_at,
-        } => judge_nodes(bytes, nodes, nodes_at),
         Layout::Misplaced(fault) => refused(fault),
+        Layout::Laid {
+            actions,
+            nodes,
+            actions_at,
+            nodes_at,
+        } => {
+            let propositions = read_actions(bytes, actions_at, actions);
+            judge_read(
+                actions,
+                propositions,
+                nodes,
+                read_nodes(bytes, nodes_at, nodes),
+            )
+        }
     }
 }

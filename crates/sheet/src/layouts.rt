@@ -1,12 +1,11 @@
 // The header of a sheet and its areas: checks 1 to 3.
-use crate::Fault;
 use crate::Layout;
 use base::word;
+use syntax::Fault;
 ghost use mathlib.Core.Path.{_≡_};
 ghost use Prim.Native.Nat.{_<_};
 ghost use lib.ListN.{length};
-ghost use Rattle.sheet.specs.Sheet.{lengthRight, countsRight, areasRight};
-ghost use Rattle.sheet.specs.Judge.{layoutOf};
+ghost use Rattle.sheet.specs.Layout.{lengthRight, countsRight, areasRight, layoutOf};
 
 // Check 1.
 fn length_right(bytes: &[u8]) -> bool

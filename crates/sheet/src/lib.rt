@@ -1,77 +1,21 @@
-// Rule sheets: the serialised syntax tree of a policy, and checks 1 to 7.
-use policy::Bound;
+// Rule sheets in bytes: checks 1 to 5, reading and writing; and checks 1 to 7 in their order.
+use syntax::Fault;
+use syntax::Judged;
+use syntax::ListedNode;
+use syntax::Node;
+use syntax::Sheet;
+use syntax::TypedNode;
 use trace::Mode;
 
 mod checks;
 mod layouts;
 mod nodes;
-mod types;
+mod reading;
+mod writing;
 
 pub use checks::judge;
 pub use layouts::find_layout;
-pub use nodes::read_node;
-pub use types::type_at;
-pub use types::type_node;
-
-// A node: an action formula (kinds 1 to 6) or a policy (kinds 10 to 23), over the numbers of its parts.
-pub enum Node {
-    True,
-    False,
-    Proposition(usize),
-    Negation(usize),
-    Conjunction(usize, usize),
-    Disjunction(usize, usize),
-    Now(usize),
-    Holds(usize),
-    Count(usize),
-    Not(usize),
-    And(usize, usize),
-    Or(usize, usize),
-    Eventually(usize),
-    Always(usize),
-    BeforeMinus(usize, usize),
-    BeforePlus(usize, usize),
-    AfterMinus(usize, usize),
-    AfterPlus(usize, usize),
-    Fulfilling(usize, usize, usize, usize),
-    Ignoring(usize, usize),
-}
-
-// What reading a node finds: the node, or that check 4 or 5 fails.
-pub enum NodeRead {
-    Read(Node),
-    UnknownKind,
-    WrongField,
-}
-
-// The type of a node.
-pub enum NodeType {
-    Formula,
-    Policy(Mode, Bound),
-}
-
-// The same in an array's element.
-pub struct TypedNode {
-    pub of: NodeType,
-}
-
-// What typing a node finds: its type, or that check 6 or 7 fails.
-pub enum TypeFound {
-    Fits(NodeType),
-    Unfit,
-    TooLong,
-}
-
-// A fault of checks 1 to 7, with the node where there is one.
-pub enum Fault {
-    Length,
-    Counts,
-    Areas,
-    UnknownKindAt(usize),
-    WrongFieldAt(usize),
-    WrongTypeAt(usize),
-    BoundAt(usize),
-}
+pub use writing::write_sheet;
 
 // Where a sheet's areas are, or the first fault of checks 1 to 3.
 pub enum Layout {
@@ -84,14 +28,37 @@ pub enum Layout {
     Misplaced(Fault),
 }
 
-// What the checks find: the number of nodes of a sound sheet, or the first fault.
-pub enum Judged {
-    Sound(usize),
-    Faulty(Fault),
+// What check 5 finds: the node, or that a part, the argument or an unused field is wrong.
+pub enum NodeFields {
+    Right(Node),
+    Wrong,
 }
 
-// A judged sheet, with the types of its nodes.
-pub struct JudgedSheet {
+// What check 4 finds: a known kind, with its fields, or an unknown one.
+pub enum NodeRead {
+    Known(NodeFields),
+    UnknownKind,
+}
+
+// The nodes that pass checks 4 and 5, up to the first that does not, and its fault.
+pub struct NodesRead {
     pub judged: Judged,
+    pub count: usize,
+    pub nodes: [ListedNode; 64],
+}
+
+// The fields of a node as it is written: kind, argument, parts a, b and c.
+pub struct FiveFields(pub u8, pub u8, pub u8, pub u8, pub u8);
+
+// What checks 1 to 7 find: a policy of a mode, or the first fault.
+pub enum SheetFound {
+    Policy(Mode),
+    NotSound(Fault),
+}
+
+// The same with the sheet and the types of its nodes; beside a fault, a blank sheet and no types.
+pub struct JudgedSheet {
+    pub found: SheetFound,
+    pub sheet: Sheet,
     pub types: [TypedNode; 64],
 }

@@ -1,40 +1,32 @@
 // Reading a node: checks 4 and 5.
-use crate::Node;
+use crate::NodeFields;
 use crate::NodeRead;
-use base::byte;
+use syntax::Node;
 ghost use mathlib.Core.Path.{_≡_};
 ghost use Prim.Native.Nat.{_+_, _<_};
 ghost use lib.ListN.{length, getD};
-ghost use Rattle.sheet.specs.Node.{noPart, argumentOnly, onePart, twoParts, threeParts, readFields};
+ghost use Rattle.sheet.specs.Reading.{noPart, argumentOnly, onePart, twoParts, threeParts, readFields};
 
 // The node, where check 5 passes.
-fn given(right: bool, node: Node) -> NodeRead
-    ensures { λ r. ⌜ r ≡ Rattle.sheet.specs.Node.given right node ⌝ }
+fn given(right: bool, node: Node) -> NodeFields
+    ensures { λ r. ⌜ r ≡ Rattle.sheet.specs.Reading.given right node ⌝ }
 {
     if right {
-        NodeRead::Read(node)
+        NodeFields::Right(node)
     } else {
-        NodeRead::WrongField
+        NodeFields::Wrong
     }
 }
 
 // A node whose fields are all unused.
-fn no_part(argument: usize, a: usize, b: usize, c: usize, node: Node) -> NodeRead
+fn no_part(argument: u8, a: u8, b: u8, c: u8, node: Node) -> NodeFields
     ensures { λ r. ⌜ r ≡ noPart argument a b c node ⌝ }
 {
     given((argument == 0) & ((a == 0) & ((b == 0) & (c == 0))), node)
 }
 
 // A node with an argument from low to high and no part.
-fn argument_only(
-    low: usize,
-    high: usize,
-    argument: usize,
-    a: usize,
-    b: usize,
-    c: usize,
-    node: Node,
-) -> NodeRead
+fn argument_only(low: u8, high: u8, argument: u8, a: u8, b: u8, c: u8, node: Node) -> NodeFields
     ensures { λ r. ⌜ r ≡ argumentOnly low high argument a b c node ⌝ }
 {
     given(
@@ -44,54 +36,68 @@ fn argument_only(
 }
 
 // A node with one part, lower than its own number n.
-fn one_part(n: usize, argument: usize, a: usize, b: usize, c: usize, node: Node) -> NodeRead
+fn one_part(n: usize, argument: u8, a: u8, b: u8, c: u8, node: Node) -> NodeFields
     ensures { λ r. ⌜ r ≡ onePart n argument a b c node ⌝ }
 {
-    given((argument == 0) & ((a < n) & ((b == 0) & (c == 0))), node)
+    given(
+        (argument == 0) & (((a as usize) < n) & ((b == 0) & (c == 0))),
+        node,
+    )
 }
 
 // A node with two parts.
-fn two_parts(n: usize, argument: usize, a: usize, b: usize, c: usize, node: Node) -> NodeRead
+fn two_parts(n: usize, argument: u8, a: u8, b: u8, c: u8, node: Node) -> NodeFields
     ensures { λ r. ⌜ r ≡ twoParts n argument a b c node ⌝ }
 {
-    given((argument == 0) & ((a < n) & ((b < n) & (c == 0))), node)
+    given(
+        (argument == 0) & (((a as usize) < n) & (((b as usize) < n) & (c == 0))),
+        node,
+    )
 }
 
 // A node with three parts and an argument from 1 to 60.
-fn three_parts(n: usize, argument: usize, a: usize, b: usize, c: usize, node: Node) -> NodeRead
+fn three_parts(n: usize, argument: u8, a: u8, b: u8, c: u8, node: Node) -> NodeFields
     ensures { λ r. ⌜ r ≡ threeParts n argument a b c node ⌝ }
 {
     given(
-        ((1 <= argument) & (argument <= 60)) & ((a < n) & ((b < n) & (c < n))),
+        ((1 <= argument) & (argument <= 60))
+            & (((a as usize) < n) & (((b as usize) < n) & ((c as usize) < n))),
         node,
     )
 }
 
 // Node n, from its five fields: the kind, the argument, the parts.
-fn read_fields(n: usize, kind: usize, argument: usize, a: usize, b: usize, c: usize) -> NodeRead
+fn read_fields(n: usize, kind: u8, argument: u8, a: u8, b: u8, c: u8) -> NodeRead
     ensures { λ r. ⌜ r ≡ readFields n kind argument a b c ⌝ }
 {
     match kind {
-        1 => no_part(argument, a, b, c, Node::True),
-        2 => no_part(argument, a, b, c, Node::False),
-        3 => argument_only(0, 15, argument, a, b, c, Node::Proposition(argument)),
-        4 => one_part(n, argument, a, b, c, Node::Negation(a)),
-        5 => two_parts(n, argument, a, b, c, Node::Conjunction(a, b)),
-        6 => two_parts(n, argument, a, b, c, Node::Disjunction(a, b)),
-        10 => one_part(n, argument, a, b, c, Node::Now(a)),
-        11 => one_part(n, argument, a, b, c, Node::Holds(a)),
-        12 => argument_only(1, 60, argument, a, b, c, Node::Count(argument)),
-        13 => one_part(n, argument, a, b, c, Node::Not(a)),
-        14 => two_parts(n, argument, a, b, c, Node::And(a, b)),
-        15 => two_parts(n, argument, a, b, c, Node::Or(a, b)),
-        16 => one_part(n, argument, a, b, c, Node::Eventually(a)),
-        17 => one_part(n, argument, a, b, c, Node::Always(a)),
-        18 => two_parts(n, argument, a, b, c, Node::BeforeMinus(a, b)),
-        19 => two_parts(n, argument, a, b, c, Node::BeforePlus(a, b)),
-        20 => two_parts(n, argument, a, b, c, Node::AfterMinus(a, b)),
-        21 => two_parts(n, argument, a, b, c, Node::AfterPlus(a, b)),
-        22 => three_parts(n, argument, a, b, c, Node::Fulfilling(argument, a, b, c)),
-        23 => two_parts(n, argument, a, b, c, Node::Ignoring(a, b)),
+        1 => NodeRead::Known(no_part(argument, a, b, c, Node::True)),
+        2 => NodeRead::Known(no_part(argument, a, b, c, Node::False)),
+        3 => NodeRead::Known(argument_only(0, 15, argument, a, b, c, Node::Proposition(argument))),
+        4 => NodeRead::Known(one_part(n, argument, a, b, c, Node::Negation(a))),
+        5 => NodeRead::Known(two_parts(n, argument, a, b, c, Node::Conjunction(a, b))),
+        6 => NodeRead::Known(two_parts(n, argument, a, b, c, Node::Disjunction(a, b))),
+        10 => NodeRead::Known(one_part(n, argument, a, b, c, Node::Now(a))),
+        11 => NodeRead::Known(one_part(n, argument, a, b, c, Node::Holds(a))),
+        12 => NodeRead::Known(argument_only(1, 60, argument, a, b, c, Node::Count(argument))),
+        13 => NodeRead::Known(one_part(n, argument, a, b, c, Node::Not(a))),
+        14 => NodeRead::Known(two_parts(n, argument, a, b, c, Node::And(a, b))),
+        15 => NodeRead::Known(two_parts(n, argument, a, b, c, Node::Or(a, b))),
+        16 => NodeRead::Known(one_part(n, argument, a, b, c, Node::Eventually(a))),
+        17 => NodeRead::Known(one_part(n, argument, a, b, c, Node::Always(a))),
+        18 => NodeRead::Known(two_parts(n, argument, a, b, c, Node::BeforeMinus(a, b))),
+        19 => NodeRead::Known(two_parts(n, argument, a, b, c, Node::BeforePlus(a, b))),
+        20 => NodeRead::Known(two_parts(n, argument, a, b, c, Node::AfterMinus(a, b))),
+        21 => NodeRead::Known(two_parts(n, argument, a, b, c, Node::AfterPlus(a, b))),
+        22 => NodeRead::Known(three_parts(
+            n,
+            argument,
+            a,
+            b,
+            c,
+            Node::Fulfilling(argument, a, b, c),
+        )),
+        23 => NodeRead::Known(two_parts(n, argument, a, b, c, Node::Ignoring(a, b))),
         _ => NodeRead::UnknownKind,
     }
 }
@@ -103,10 +109,10 @@ pub fn read_node(bytes: &[u8], at: usize, n: usize) -> NodeRead
 {
     read_fields(
         n,
-        byte(bytes[at]),
-        byte(bytes[at + 1]),
-        byte(bytes[at + 2]),
-        byte(bytes[at + 3]),
-        byte(bytes[at + 4]),
+        bytes[at],
+        bytes[at + 1],
+        bytes[at + 2],
+        bytes[at + 3],
+        bytes[at + 4],
     )
 }

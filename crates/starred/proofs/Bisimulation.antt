@@ -7,9 +7,10 @@ use mathlib.Core.Logic.{_⊎_, inl, inr}
 use Prim.Native.Nat.{ℕ, zero, suc, _<_}
 use lib.Dec.{eqb}
 use borrow.Author.Tests.{eqb-true}
+use Rattle.base.proofs.Truths.{not-true, and-true, or-true}
 use Rattle.trace.specs.Trace.{Move, trip, go, Step, Alike}
 use Rattle.trace.proofs.Laws.{Related, bisimilar, alike-next}
-use Rattle.starred.proofs.Tests.{not-true, both-true, either-true, allBelow, someBelow, all-below, some-below}
+use Rattle.starred.proofs.Tests.{allBelow, someBelow, all-below, some-below}
 
 -- f 0 ++ f 1 ++ .. , n of them
 abbrev pub gather : {X : Type 0} → ℕ → (ℕ → List X) → List X
@@ -72,14 +73,14 @@ module _ (actions : ℕ) (f g : Step ℕ) where
     closed-member : (ps : List Couple) → closedAll pairs ps ≡ true → (u v : ℕ) → member sameCouple (u, v) ps ≡ true → closedAt pairs u v ≡ true
     closed-member [] e u v m = not-true m
     closed-member (p ∷ ps) e u v m =
-        by (closed-member ps) (both-true (closedAt pairs (p .0) (p .1)) (closedAll pairs ps) e)
-        (either-true (sameCouple (u, v) p) (member sameCouple (u, v) ps) m)
+        by (closed-member ps) (and-true (closedAt pairs (p .0) (p .1)) (closedAll pairs ps) e)
+        (or-true (sameCouple (u, v) p) (member sameCouple (u, v) ps) m)
       where
         by : (closedAll pairs ps ≡ true → (u v : ℕ) → member sameCouple (u, v) ps ≡ true → closedAt pairs u v ≡ true)
             → (closedAt pairs (p .0) (p .1) ≡ true) × (closedAll pairs ps ≡ true)
             → (sameCouple (u, v) p ≡ true) ⊎ (member sameCouple (u, v) ps ≡ true) → closedAt pairs u v ≡ true
         by before c (inl s) =
-            let h = both-true (eqb u (p .0)) (eqb v (p .1)) s in
+            let h = and-true (eqb u (p .0)) (eqb v (p .1)) s in
             rw (eqb-true u (p .0) (h .0), eqb-true v (p .1) (h .1)) (c .0)
         by before c (inr t) = before (c .1) u v t
 
@@ -99,7 +100,7 @@ module _ (actions : ℕ) (f g : Step ℕ) where
         u v (b .0)
       where
         b : Listed u v × (closedAll pairs pairs ≡ true)
-        b = both-true (member sameCouple (u, v) pairs) (closedAll pairs pairs) e
+        b = and-true (member sameCouple (u, v) pairs) (closedAll pairs pairs) e
 
   pub alike-sound : (u v : ℕ) → alikeTest u v ≡ true → Alike actions f u g v
   alike-sound u v e = bisimulation-alike (together u v) u v e

@@ -10,6 +10,7 @@ use native.Mathlib.Omega.{arith}
 use lib.Dec.{eqb}
 use lib.ListN.{length, getD, List·getD-eq-default}
 use borrow.Author.Tests.{eqb-false}
+use Rattle.base.proofs.Truths.{not-true, and-true}
 use Rattle.base.specs.Build.{build}
 use Rattle.trace.specs.Trace.{Move, trip, go, Step, Sequence, trips}
 use Rattle.automaton.specs.Machine.{entryMove, transition}
@@ -28,7 +29,7 @@ use Rattle.policy.proofs.Steps.{steps-trip}
 use Rattle.rules.specs.Codes.{encode, FitRule}
 use Rattle.rules.specs.Steps.{codeStepOf}
 use Rattle.rules.proofs.Fitting.{fit-sound, code-trips}
-use Rattle.starred.proofs.Tests.{not-true, both-true, allBelow, all-below}
+use Rattle.starred.proofs.Tests.{allBelow, all-below}
 use Rattle.starred.proofs.Bisimulation.{gather, reach, alikeTest, alike-sound}
 use Rattle.starred.proofs.RuleTests.{partsPass, countFits, parts-pass, counted, all-both}
 use Rattle.policy.proofs.Parts.{on-parts-compose}
@@ -138,8 +139,8 @@ module _ (actions : ℕ) (propositions : ℕ → ℕ) where
 
     right-for : (next : List ℕ) → rightFor next (over machine p) ≡ true → MachineRight next p
     right-for next e =
-        let a = both-true (closedTest next) _ e in
-        let b = both-true (countFits (over machine p)) _ (a .1) in
+        let a = and-true (closedTest next) _ e in
+        let b = and-true (countFits (over machine p)) _ (a .1) in
         record {
           closed = next-closed actions next (a .0);
           agrees =
@@ -150,7 +151,7 @@ module _ (actions : ℕ) (propositions : ℕ → ℕ) where
 
   pub machine-sound : (n : ℕ) (p : Policy) → Typed p → machineTest n p ≡ true → MachineRight (machineOf n p) p
   machine-sound zero p t e = not-true e
-  machine-sound (suc n) p t e = by (machine-sound n) (both-true _ _ e)
+  machine-sound (suc n) p t e = by (machine-sound n) (and-true _ _ e)
     where
       by : ((a : Policy) → Typed a → machineTest n a ≡ true → MachineRight (machineOf n a) a)
           → (rightFor (machineOf (suc n) p) (over (machineOf n) p) ≡ true) × (partsPass (machineTest n) (ruleOf propositions p) ≡ true)

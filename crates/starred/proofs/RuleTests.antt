@@ -5,10 +5,10 @@ use mathlib.Core.Bool.{Bool, true, _&&_}
 use Prim.Native.Nat.{ℕ, _≤_}
 use lib.Dec.{leb}
 use borrow.Author.Tests.{leb-true}
+use Rattle.base.proofs.Truths.{and-true}
 use Rattle.policy.specs.Rule.{Rule, opening, counting, same, both, either, copied, until, then, timed, filtered}
 use Rattle.policy.specs.Parts.{AllParts}
 use Rattle.rules.specs.Codes.{CountFits}
-use Rattle.starred.proofs.Tests.{both-true}
 
 -- A test that every part passes, and one of the rule's count.
 abbrev pub partsPass : {P : Type 0} → (P → Bool) → Rule P → Bool
@@ -37,7 +37,7 @@ countFits (filtered hit a) = true
 
 module _ {P : Type 0} (test : P → Bool) where
   two-pass : (a b : P) → (test a && test b) ≡ true → (test a ≡ true) × (test b ≡ true)
-  two-pass a b e = both-true (test a) (test b) e
+  two-pass a b e = and-true (test a) (test b) e
 
   pub parts-pass : (rule : Rule P) → partsPass test rule ≡ true → AllParts (λ a. test a ≡ true) rule
   parts-pass (opening hit) e = tt
@@ -49,13 +49,13 @@ module _ {P : Type 0} (test : P → Bool) where
   parts-pass (until a b) e = two-pass a b e
   parts-pass (then a b) e = two-pass a b e
   parts-pass (timed k a b c) e =
-      let h = both-true (test a) (test b && test c) e in
+      let h = and-true (test a) (test b && test c) e in
       let i = two-pass b c (h .1) in
       (h .0, i .0, i .1)
   parts-pass (filtered hit a) e = e
 
 count-fits : (k : ℕ) → (leb 1 k && leb k 60) ≡ true → (1 ≤ k) × (k ≤ 60)
-count-fits k e = let h = both-true (leb 1 k) (leb k 60) e in (leb-true 1 k (h .0), leb-true k 60 (h .1))
+count-fits k e = let h = and-true (leb 1 k) (leb k 60) e in (leb-true 1 k (h .0), leb-true k 60 (h .1))
 
 pub counted : {P : Type 0} (rule : Rule P) → countFits rule ≡ true → CountFits rule
 counted (opening hit) e = tt

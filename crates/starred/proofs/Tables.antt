@@ -9,23 +9,24 @@ use native.Mathlib.Omega.{arith}
 use lib.Dec.{eqb, leb, ltb}
 use lib.ListN.{length, getD}
 use borrow.Author.Tests.{eqb-true, leb-true, ltb-true}
+use Rattle.base.proofs.Truths.{and-true, or-true}
 use Rattle.automaton.specs.Machine.{AlikeStates, FirstMet, Numbered, Distinct}
 use Rattle.table.specs.Table.{typeOf, actionsOf, rowsOf, offsetOf, entriesOf, rowStep, HeaderFits, WellFormed, Accepted}
-use Rattle.starred.proofs.Tests.{both-true, either-true, allBelow, someBelow, all-below, some-below}
+use Rattle.starred.proofs.Tests.{allBelow, someBelow, all-below, some-below}
 use Rattle.starred.proofs.Bisimulation.{differTest, differ-sound}
 
 abbrev inRange : ℕ → ℕ → ℕ → Bool
 inRange low high n = leb low n && leb n high
 
 in-range : (low high n : ℕ) → inRange low high n ≡ true → (low ≤ n) × (n ≤ high)
-in-range low high n e = let h = both-true (leb low n) (leb n high) e in (leb-true low n (h .0), leb-true n high (h .1))
+in-range low high n e = let h = and-true (leb low n) (leb n high) e in (leb-true low n (h .0), leb-true n high (h .1))
 
 -- an entry is below a bound, or the mark
 abbrev pub entryFits : ℕ → ℕ → Bool
 entryFits n e = eqb e 255 || ltb e n
 
 pub entry-fits : (n e : ℕ) → entryFits n e ≡ true → (e ≡ 255 → ⊥) → e < n
-entry-fits n e t h = by (either-true (eqb e 255) (ltb e n) t)
+entry-fits n e t h = by (or-true (eqb e 255) (ltb e n) t)
   where
     by : (eqb e 255 ≡ true) ⊎ (ltb e n ≡ true) → e < n
     by (inl p) = absurd (h (eqb-true e 255 p))
@@ -39,10 +40,10 @@ module _ (bytes : List ℕ) where
 
   header-fits : headerTest ≡ true → HeaderFits bytes
   header-fits e =
-      let a = both-true _ _ e in
-      let b = both-true _ _ (a .1) in
-      let c = both-true _ _ (b .1) in
-      let d = both-true _ _ (c .1) in
+      let a = and-true _ _ e in
+      let b = and-true _ _ (a .1) in
+      let c = and-true _ _ (b .1) in
+      let d = and-true _ _ (c .1) in
       record {
         long = leb-true 8 (length bytes) (a .0);
         type-low = in-range 1 2 (typeOf bytes) (b .0) .0;
@@ -65,8 +66,8 @@ module _ (bytes : List ℕ) where
 
   well-formed : formedTest ≡ true → WellFormed bytes
   well-formed e =
-      let a = both-true _ _ e in
-      let b = both-true _ _ (a .1) in
+      let a = and-true _ _ e in
+      let b = and-true _ _ (a .1) in
       record {
         header = header-fits (a .0);
         whole = eqb-true (length bytes) (8 + rowsOf bytes * actionsOf bytes) (b .0);
@@ -84,7 +85,7 @@ module _ (bytes : List ℕ) where
 
   first-met : (s : ℕ) → (at : ℕ) × (at < s * actionsOf bytes) × (metAt s at ≡ true) → FirstMet 255 (actionsOf bytes) (entriesOf bytes) s
   first-met s h =
-      let m = both-true (eqb (entry (h .0)) s) (allBelow (h .0) (λ j. entryFits s (entry j))) (h .2) in
+      let m = and-true (eqb (entry (h .0)) s) (allBelow (h .0) (λ j. entryFits s (entry j))) (h .2) in
       record {
         at = h .0;
         here = eqb-true (entry (h .0)) s (m .0);
@@ -93,7 +94,7 @@ module _ (bytes : List ℕ) where
       }
 
   numbered : numberedTest ≡ true → Numbered 255 (rowsOf bytes) (actionsOf bytes) (entriesOf bytes)
-  numbered e = record { met = λ s p h. by s p (either-true _ _ (all-below (rowsOf bytes) (λ s. eqb s 0 || someBelow (s * actionsOf bytes) (metAt s)) e s h)) }
+  numbered e = record { met = λ s p h. by s p (or-true _ _ (all-below (rowsOf bytes) (λ s. eqb s 0 || someBelow (s * actionsOf bytes) (metAt s)) e s h)) }
     where
       by : (s : ℕ) → 0 < s → (eqb s 0 ≡ true) ⊎ (someBelow (s * actionsOf bytes) (metAt s) ≡ true)
           → FirstMet 255 (actionsOf bytes) (entriesOf bytes) s
@@ -114,7 +115,7 @@ module _ (bytes : List ℕ) where
       record {
         apart =
             λ s t g h alike. by s t alike
-            (either-true _ _ (all-below (rowsOf bytes) (apartTest s) (all-below (rowsOf bytes) (λ s. allBelow (rowsOf bytes) (apartTest s)) e s g) t h));
+            (or-true _ _ (all-below (rowsOf bytes) (apartTest s) (all-below (rowsOf bytes) (λ s. allBelow (rowsOf bytes) (apartTest s)) e s g) t h));
       }
     where
       by : (s t : ℕ) → AlikeStates 255 (actionsOf bytes) (entriesOf bytes) s t
@@ -129,6 +130,6 @@ module _ (bytes : List ℕ) where
 
   pub accepted-sound : acceptedTest ≡ true → Accepted bytes
   accepted-sound e =
-      let a = both-true _ _ e in
-      let b = both-true _ _ (a .1) in
+      let a = and-true _ _ e in
+      let b = and-true _ _ (a .1) in
       record { formed = well-formed (a .0); canonical = record { numbered = numbered (b .0); distinct = distinct (b .1) } }

@@ -1,23 +1,12 @@
 -- Tests of all or some numbers below a bound, and what a passed test says.
 -- Assumes nothing.
-use mathlib.Core.Path.{_≡_, refl, sym}
+use mathlib.Core.Path.{_≡_}
 use mathlib.Core.Bool.{Bool, true, false, _&&_, _||_}
 use mathlib.Core.Logic.{_⊎_, inl, inr}
 use Prim.Native.Nat.{ℕ, zero, suc, _<_}
 use native.Mathlib.Decide.{ℕ-discrete}
 use native.Mathlib.Omega.{arith}
-use Rattle.trace.proofs.Laws.{not-both}
-
-pub not-true : {X : Type 0} → _≡_ {A = Bool} false true → X
-not-true e = not-both (sym e)
-
-pub both-true : (b c : Bool) → (b && c) ≡ true → (b ≡ true) × (c ≡ true)
-both-true true c e = (refl, e)
-both-true false c e = not-true e
-
-pub either-true : (b c : Bool) → (b || c) ≡ true → (b ≡ true) ⊎ (c ≡ true)
-either-true true c e = inl refl
-either-true false c e = inr e
+use Rattle.base.proofs.Truths.{not-true, and-true, or-true}
 
 abbrev pub allBelow : ℕ → (ℕ → Bool) → Bool
 allBelow zero test = true
@@ -29,7 +18,7 @@ someBelow (suc n) test = test n || someBelow n test
 
 pub all-below : (n : ℕ) (test : ℕ → Bool) → allBelow n test ≡ true → (k : ℕ) → k < n → test k ≡ true
 all-below zero test e k h = absurd (omega arith)
-all-below (suc n) test e k h = by (all-below n test) (both-true (test n) (allBelow n test) e) (ℕ-discrete k n)
+all-below (suc n) test e k h = by (all-below n test) (and-true (test n) (allBelow n test) e) (ℕ-discrete k n)
   where
     by : (allBelow n test ≡ true → (k : ℕ) → k < n → test k ≡ true) → (test n ≡ true) × (allBelow n test ≡ true) → Dec (k ≡ n) → test k ≡ true
     by before t (yes p) = rw p (t .0)
@@ -37,7 +26,7 @@ all-below (suc n) test e k h = by (all-below n test) (both-true (test n) (allBel
 
 pub some-below : (n : ℕ) (test : ℕ → Bool) → someBelow n test ≡ true → (k : ℕ) × (k < n) × (test k ≡ true)
 some-below zero test e = not-true e
-some-below (suc n) test e = by (some-below n test) (either-true (test n) (someBelow n test) e)
+some-below (suc n) test e = by (some-below n test) (or-true (test n) (someBelow n test) e)
   where
     by : (someBelow n test ≡ true → (k : ℕ) × (k < n) × (test k ≡ true)) → (test n ≡ true) ⊎ (someBelow n test ≡ true)
         → (k : ℕ) × (k < suc n) × (test k ≡ true)

@@ -9,29 +9,33 @@ use Rattle.policy.specs.declared.Bound.{Bound}
 use Rattle.policy.specs.declared.Typing.the-variants.{Typed}
 use Rattle.policy.specs.Policy.{satisfies}
 use Rattle.policy.specs.Typing.{typeOf as typingOf}
-use Rattle.sheet.specs.Sheet.{actionCount, propositionsOf}
-use Rattle.sheet.specs.Judge.{judge, sound}
-use Rattle.sheet.specs.Meaning.{sheetPolicy}
-use Rattle.sheet.specs.declared.TypedNode.{TypedNode}
+use Rattle.syntax.specs.Nodes.{propositionsOf}
+use Rattle.syntax.specs.Meaning.{sheetPolicy}
+use Rattle.syntax.specs.Typed.{sound}
+use Rattle.syntax.specs.declared.Sheet.{Sheet}
+use Rattle.syntax.specs.declared.TypedNode.{TypedNode}
+use Rattle.sheet.specs.Judge.{judge}
+use Rattle.sheet.specs.Writing.{sheetBytes}
 use Rattle.table.specs.Table.{typeOf, actionsOf, Accepted, verdict}
 use Rattle.table.specs.Answer.{modeNumber}
 
+-- A policy's type, its sheet, and its table.
 pub record Case : Type 0 where
-  pub sheet : List ℕ
+  pub mode : Mode
+  pub sheet : Sheet
   pub table : List ℕ
 
--- The sheet passes checks 1 to 7; the table passes 10 and 11, has the sheet's actions and the policy's type, and gives the policy's verdict
--- after every sequence.
+-- The sheet's bytes pass checks 1 to 7, and its policy is of the type; the table passes 10 and 11, has the sheet's actions and the policy's
+-- type, and gives the policy's verdict after every sequence.
 pub record Right (case : Case) : Type 0 where
   pub types : List TypedNode
-  pub judged : judge (case .sheet) ≡ sound types
-  pub accepted : Accepted (case .table)
-  pub acting : actionsOf (case .table) ≡ actionCount (case .sheet)
-  pub mode : Mode
+  pub judged : judge (sheetBytes (case .sheet)) ≡ sound (case .mode) (case .sheet) types
   pub bound : Bound
-  pub typed : typingOf (sheetPolicy (case .sheet)) ≡ Typed mode bound
-  pub type : typeOf (case .table) ≡ modeNumber mode
-  pub verdicts : (w : List ℕ) → Sequence (actionCount (case .sheet)) w
+  pub typed : typingOf (sheetPolicy (case .sheet)) ≡ Typed (case .mode) bound
+  pub accepted : Accepted (case .table)
+  pub acting : actionsOf (case .table) ≡ case .sheet .actions
+  pub type : typeOf (case .table) ≡ modeNumber (case .mode)
+  pub verdicts : (w : List ℕ) → Sequence (case .sheet .actions) w
       → verdict (case .table) w ≡ satisfies (propositionsOf (case .sheet)) (sheetPolicy (case .sheet)) w
 
 -- each of a list of cases

@@ -1,5 +1,6 @@
 pub mod Formed
 pub mod Scan
+pub mod SharedRows
 pub mod Verdicts
 pub mod Apart
 pub mod Loading

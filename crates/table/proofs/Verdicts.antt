@@ -13,10 +13,13 @@ use lib.ListN.{length, getD}
 use lib.Seq.{ext-getD, getD-drop}
 use Rattle.trace.specs.Trace.{trips, Alike}
 use Rattle.trace.proofs.Laws.{not-both}
-use Rattle.automaton.specs.Machine.{Machine, Numbered, Distinct, transition}
-use Rattle.automaton.proofs.Canonical.{canonical, canonical-entries, fewest}
+use Rattle.automaton.specs.Machine.{Machine, transition}
+use Rattle.automaton.specs.Minimal.{RowsOf}
+use Rattle.automaton.proofs.Canonical.{fewest}
+use Rattle.automaton.proofs.MinimalRows.{rows-unique}
 use Rattle.table.specs.Table.{typeOf, actionsOf, rowsOf, entriesOf, rowStep, HeaderFits, WellFormed, Canonical, Accepted, judged, SameVerdicts}
 use Rattle.table.proofs.Formed.{machine}
+use Rattle.table.proofs.SharedRows.{accepted-rows}
 
 -- a type is 1 or 2
 data Type12 : ℕ → Type 0 where
@@ -77,44 +80,39 @@ module _ (s t : List ℕ) (ps : Accepted s) (pt : Accepted t) (acts : actionsOf 
   hs : HeaderFits s
   hs = ps .formed .header
 
-  numbered : Numbered 255 (rowsOf t) (actionsOf s) (entriesOf t)
-  numbered = rw acts (pt .canonical .numbered)
+  -- the second table's rows are those of what the first trips on
+  other-rows : RowsOf (actionsOf s) (λ w. trips (rowStep s) 0 w) (rowsOf t) (entriesOf t)
+  other-rows =
+      record {
+        low = pt .formed .header .rows-low;
+        machine = other s t (ps .formed) (pt .formed) acts;
+        numbered = rw acts (pt .canonical .numbered);
+        distinct = rw acts (pt .canonical .distinct);
+        reads = λ w p. sym (starts s t (ps .formed) (pt .formed) acts v .same w p);
+      }
 
-  distinct : Distinct 255 (rowsOf t) (actionsOf s) (entriesOf t)
-  distinct = rw acts (pt .canonical .distinct)
-
-  start : Alike (actionsOf s) (rowStep s) 0 (transition 255 (actionsOf s) (entriesOf t)) 0
-  start = starts s t (ps .formed) (pt .formed) acts v
-
-  same-rows : rowsOf s ≡ rowsOf t
-  same-rows =
-      canonical (hs .actions-low) (machine s (ps .formed)) (ps .canonical .numbered) (ps .canonical .distinct) (other s t (ps .formed) (pt .formed) acts) numbered
-      distinct (hs .rows-low) (pt .formed .header .rows-low) start .0
-
-  same-entries : entriesOf s ≡ entriesOf t
-  same-entries =
-      canonical-entries (hs .actions-low) (machine s (ps .formed)) (ps .canonical .numbered) (ps .canonical .distinct) (other s t (ps .formed) (pt .formed) acts)
-      numbered distinct (hs .rows-low) (pt .formed .header .rows-low) start
+  same : (rowsOf s ≡ rowsOf t) × (entriesOf s ≡ entriesOf t)
+  same = rows-unique (hs .actions-low) (accepted-rows s ps) other-rows
 
   same-header : (i : ℕ) → i < 8 → getD s i 0 ≡ getD t i 0
   same-header zero h = low-digit _ _ _ (getD t 1 0) (types s t (ps .formed) (pt .formed) acts v) (omega (arith, hs .type-high))
   same-header (suc zero) h = high-digit (getD s 0 0) _ (getD t 0 0) _ (types s t (ps .formed) (pt .formed) acts v) (omega (arith, hs .type-high))
   same-header (suc (suc zero)) h = low-digit _ _ _ (getD t 3 0) acts (omega (arith, hs .actions-high))
   same-header (suc (suc (suc zero))) h = high-digit (getD s 2 0) _ (getD t 2 0) _ acts (omega (arith, hs .actions-high))
-  same-header (suc (suc (suc (suc zero)))) h = low-digit _ _ _ (getD t 5 0) same-rows (omega (arith, hs .rows-high))
-  same-header (suc (suc (suc (suc (suc zero))))) h = high-digit (getD s 4 0) _ (getD t 4 0) _ same-rows (omega (arith, hs .rows-high))
+  same-header (suc (suc (suc (suc zero)))) h = low-digit _ _ _ (getD t 5 0) (same .0) (omega (arith, hs .rows-high))
+  same-header (suc (suc (suc (suc (suc zero))))) h = high-digit (getD s 4 0) _ (getD t 4 0) _ (same .0) (omega (arith, hs .rows-high))
   same-header (suc (suc (suc (suc (suc (suc zero)))))) h = low-digit _ _ _ (getD t 7 0) (hs .offset ∙ sym (pt .formed .header .offset)) (omega (arith, hs .offset))
   same-header (suc (suc (suc (suc (suc (suc (suc zero))))))) h =
       high-digit (getD s 6 0) _ (getD t 6 0) _ (hs .offset ∙ sym (pt .formed .header .offset)) (omega (arith, hs .offset))
   same-header (suc (suc (suc (suc (suc (suc (suc (suc i)))))))) h = absurd (let z = h in omega arith)
 
   same-bytes : s ≡ t
-  same-bytes = ext-getD 0 s t (ps .formed .whole ∙ rw (same-rows, acts) (sym (pt .formed .whole))) byte
+  same-bytes = ext-getD 0 s t (ps .formed .whole ∙ rw (same .0, acts) (sym (pt .formed .whole))) byte
     where
       behind : (i : ℕ) → 8 ≤ i → getD s i 0 ≡ getD t i 0
       behind i h =
           ap (λ (k : ℕ). getD s k 0) (sym (add-sub-of-le h)) ∙ sym (getD-drop 8 s (i - 8) 0)
-          ∙ ap (λ (l : List ℕ). getD l (i - 8) 0) same-entries ∙ getD-drop 8 t (i - 8) 0
+          ∙ ap (λ (l : List ℕ). getD l (i - 8) 0) (same .1) ∙ getD-drop 8 t (i - 8) 0
           ∙ ap (λ (k : ℕ). getD t k 0) (add-sub-of-le h)
 
       byte : (i : ℕ) → i < length s → getD s i 0 ≡ getD t i 0

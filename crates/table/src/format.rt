@@ -1,9 +1,20 @@
-// The header of a table and check 10.
+// The header of a table, the number of its type, and check 10.
 use crate::Header;
 use crate::rows::entries_fit;
 use base::word;
 use trace::Mode;
-ghost use Rattle.table.specs.Answer.{HeaderRead, Checked};
+ghost use mathlib.Core.Path.{_≡_};
+ghost use Rattle.table.specs.Answer.{modeNumber, HeaderRead, Checked};
+
+// The type's number in a table's header.
+pub fn mode_number(mode: Mode) -> u8
+    ensures { λ r. ⌜ r ≡ modeNumber mode ⌝ }
+{
+    match mode {
+        Mode::Enforced => 1,
+        Mode::Watched => 2,
+    }
+}
 
 // The header's fields, where they are in their ranges.
 pub fn header_of(bytes: &[u8]) -> Header

@@ -7,6 +7,7 @@ mod rows;
 
 pub use format::check;
 pub use format::header_of;
+pub use format::mode_number;
 pub use loader::load;
 
 // What a table's header says, where its fields are in their ranges.

@@ -1,11 +1,11 @@
 -- Laws of sequences and of alike states.
 -- Assumes nothing.
-use mathlib.Core.Path.{_≡_, refl, sym, _∙_, ap}
+use mathlib.Core.Path.{_≡_, refl, sym, _∙_}
 use mathlib.Core.Bool.{Bool, true, false}
 use mathlib.Core.List.{List, [], _∷_, _++_}
 use Prim.Native.Nat.{ℕ, _<_}
 use native.Mathlib.Omega.{arith}
-use Rattle.trace.specs.Trace.{Sequence, Move, trip, go, Step, after, run, tripped, trips, Alike}
+use Rattle.trace.specs.Trace.{Sequence, Move, trip, go, Step, after, run, tripped, Alike}
 
 -- `true` and `false` differ
 pub not-both : {A : Type 0} → _≡_ {A = Bool} true false → A

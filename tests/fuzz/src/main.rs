@@ -2,15 +2,17 @@
 //! Arguments: number of calls, seed. Ends with the counts and `0 disagreements`, or status 1.
 
 mod beside;
-mod inputs;
+mod boards;
 mod lent;
 mod library;
 
 use beside::{Beside, Call, Outcome};
-use inputs::{about, any_board, any_sheet, number, Pool};
+use boards::{about, any_board, number};
 use reference::board::{AREA, PLACES, RECORD};
 use reference::calls::{VALUES, WORK};
 use reference::generate::Random;
+use reference::inputs::sheets::any_sheet;
+use reference::inputs::tables::Pool;
 use reference::table::LARGEST;
 use std::collections::BTreeMap;
 
@@ -110,7 +112,7 @@ fn main() {
     let mut fuzz = Fuzz {
         random: Random(seed),
         beside: Beside::new(),
-        pool: Pool::new(),
+        pool: Pool::default(),
         sorts: BTreeMap::new(),
         answers: BTreeMap::new(),
         calls: 0,

@@ -1,108 +1,153 @@
--- `minimal::quotient` meets its contract. The loop's invariant: the quotient's first k entries, and then what was there.
+-- `minimal::quotient` meets its contract. The invariants: the quotient's first k entries, and then what was there; k is the first entry of the
+-- row, and in the row its entry for the action.
 -- Assumes nothing.
-use Prim.Native.Nat.{ℕ, _+_, _*_, _/_, _%_, _<_, _-_}
-use native.Mathlib.Nat.{div-lt-iff-lt-mul, mod-lt}
+use mathlib.Core.Path.{_≡_, sym, ap, ap₂, _∙_}
+use mathlib.Core.List.{List}
+use Prim.Native.Nat.{ℕ, _+_, _*_, _≤_, _<_, _-_}
+use native.Mathlib.Nat.{suc-mul}
+use native.Mathlib.Numerals.{add-one}
 use native.Mathlib.Omega.{arith}
+use lib.Arith.{digits-lt, digits-div, digits-mod}
+use lib.ListN.{length, getD}
 use mir.Syntax.{w64}
 use mir.Val.{Fits}
-use lib.ListN.{length}
-use Rattle.automaton.specs.Partition.{firstOf}
+use Rattle.automaton.specs.Partition.{classOf, firstOf}
 use Rattle.automaton.specs.Quotient.{quotientEntry}
 use Rattle.base.proofs.Stored.{Stored, stored-none, stored-more, stored-end}
 use Rattle.automaton.proofs.minimal.quotient.Statement.{statement}
 use Rattle.automaton.proofs.minimal.quotient.Tie as tie
 
+abbrev Inv-loop2 : tie.InvT-loop2
+Inv-loop2 next classes firsts actions count out₀ k₀ row from action₀ out k action =
+    (action ≤ actions)
+    × (k ≡ k₀ + action)
+    × ((old : List ℕ) → count * actions ≤ length old → Stored (quotientEntry actions next classes firsts) (count * actions) old out₀ k₀
+    → Stored (quotientEntry actions next classes firsts) (count * actions) old out k)
+
+abbrev μ-loop2 : tie.MeasureT-loop2
+μ-loop2 next classes firsts actions count out₀ k₀ row from action₀ out k action = actions - action
+
 abbrev Inv-loop : tie.InvT-loop
-Inv-loop next classes firsts actions count out₀ k₀ out k = Stored (quotientEntry actions next classes firsts) (count * actions) out₀ out k
+Inv-loop next classes firsts actions count out₀ k₀ row₀ out k row =
+    (row ≤ count) × (k ≡ row * actions) × Stored (quotientEntry actions next classes firsts) (count * actions) out₀ out k
 
 abbrev μ-loop : tie.MeasureT-loop
-μ-loop next classes firsts actions count out₀ k₀ out k = count * actions - k
+μ-loop next classes firsts actions count out₀ k₀ row₀ out k row = count - row
 
-loop-holds : tie.Need-loop-holds Inv-loop μ-loop
-loop-holds c = stored-none _ _ _
+loop-holds : tie.Need-loop-holds Inv-loop2 μ-loop2 Inv-loop μ-loop
+loop-holds c = (omega arith, omega arith, stored-none _ _ _)
 
-mul-loop : tie.Need-mul-loop Inv-loop μ-loop
-mul-loop c = omega arith
+-- the entries of any class lie within the list
+module _ (z : tie.Start Inv-loop2 μ-loop2 Inv-loop μ-loop) (x : ℕ) (h : x < z .args .count) where
+  row-fits : Fits w64 (firstOf (z .args .firsts .now) x * z .args .actions)
+  row-fits = omega (arith, z .pre .inside x h)
 
-div-from : tie.Need-div-from Inv-loop μ-loop
-div-from c = omega arith
+  module _ (y : ℕ) (g : y < z .args .actions) where
+    entry-inside : firstOf (z .args .firsts .now) x * z .args .actions + y < length (z .args .next .now)
+    entry-inside = omega (arith, z .pre .inside x h)
 
--- the row and the action of entry k
-module _ (c : tie.In-loop Inv-loop μ-loop) where
-  abbrev start : tie.Start Inv-loop μ-loop
-  start = c .before .before .before .before .before .before
-
-  row-below : c .before .loop .k / start .args .actions < start .args .count
-  row-below = div-lt-iff-lt-mul (start .pre .acting) .1 (c .loop-test .taken)
-
-  action-below : c .before .loop .k % start .args .actions < start .args .actions
-  action-below = mod-lt (c .before .loop .k) (start .pre .acting)
-
-  row-fits : (x : ℕ) → x < start .args .count → Fits w64 (firstOf (start .args .firsts .now) x * start .args .actions)
-  row-fits x h = omega (arith, start .pre .inside x h)
-
-  -- so far into the entries, of any class
-  module _ (x y : ℕ) (h : x < start .args .count) (g : y < start .args .actions) where
-    entry-inside : firstOf (start .args .firsts .now) x * start .args .actions + y < length (start .args .next .now)
-    entry-inside = omega (arith, start .pre .inside x h)
-
-    entry-fits : Fits w64 (firstOf (start .args .firsts .now) x * start .args .actions + y)
+    entry-fits : Fits w64 (firstOf (z .args .firsts .now) x * z .args .actions + y)
     entry-fits = omega (arith, entry-inside)
 
-mul-from : tie.Need-mul-from Inv-loop μ-loop
-mul-from c = omega (arith, row-below c)
+mul-from-2 : tie.Need-mul-from-2 Inv-loop2 μ-loop2 Inv-loop μ-loop
+mul-from-2 c = row-fits (c .before .before .before .before .before .before .before) _ (omega arith)
 
-shared-slice-read-from : tie.Need-shared-slice-read-from Inv-loop μ-loop
-shared-slice-read-from c = omega (arith, row-below (c .before))
+loop2-holds : tie.Need-loop2-holds Inv-loop2 μ-loop2 Inv-loop μ-loop
+loop2-holds c = (omega arith, omega arith, λ old room s. s)
 
-mul-from-2 : tie.Need-mul-from-2 Inv-loop μ-loop
-mul-from-2 c = row-fits (c .before) _ (omega (arith, row-below (c .before)))
+-- the class behind an action of a row is that entry of the quotient
+entry-of : (next classes firsts : List ℕ) {actions k : ℕ} (row : ℕ) {action : ℕ} → k ≡ row * actions + action → action < actions
+    → classOf classes (getD next (firstOf firsts row * actions + action) 0) ≡ quotientEntry actions next classes firsts k
+entry-of next classes firsts {actions} row e h =
+    rw e (ap₂ (λ (x y : ℕ). classOf classes (getD next (firstOf firsts x * actions + y) 0)) (sym (digits-div row h)) (sym (digits-mod row h)))
 
-rem-class-behind : tie.Need-rem-class-behind Inv-loop μ-loop
-rem-class-behind c = omega arith
+-- in a row
+module _ (c : tie.At-loop2 Inv-loop2 μ-loop2 Inv-loop μ-loop) where
+  abbrev turn : tie.At-loop Inv-loop2 μ-loop2 Inv-loop μ-loop
+  turn = c .before .before .before
 
-add-class-behind : tie.Need-add-class-behind Inv-loop μ-loop
-add-class-behind c = entry-fits (c .before) _ _ (omega (arith, row-below (c .before))) (action-below (c .before))
+  abbrev start : tie.Start Inv-loop2 μ-loop2 Inv-loop μ-loop
+  start = turn .before .before .before .before .before
 
-class-behind-requires : tie.Need-class-behind-requires Inv-loop μ-loop
-class-behind-requires c κs = entry-inside (c .before) _ _ (omega (arith, row-below (c .before))) (action-below (c .before))
+  abbrev entry : ℕ → ℕ
+  entry = quotientEntry (start .args .actions) (start .args .next .now) (start .args .classes .now) (start .args .firsts .now)
 
-slice-write-out : tie.Need-slice-write-out Inv-loop μ-loop
-slice-write-out c = omega arith
+  row-below : turn .loop .row < start .args .count
+  row-below = c .before .before .loop-test .taken
 
-add-k : tie.Need-add-k Inv-loop μ-loop
-add-k c = omega arith
+  so-far : Stored entry (start .args .count * start .args .actions) (start .args .out .now) (c .loop2 .out) (c .loop2 .k)
+  so-far = c .loop2 .inv .2 (start .args .out .now) (start .pre .room) (turn .loop .inv .2)
 
-loop-less : tie.Need-loop-less Inv-loop μ-loop
-loop-less c = omega arith
+  module _ (h : c .loop2 .action < start .args .actions) where
+    place : c .loop2 .k ≡ turn .loop .row * start .args .actions + c .loop2 .action
+    place = omega arith
 
-loop-again : tie.Need-loop-again Inv-loop μ-loop
-loop-again c = stored-more (c .before .before .before .loop .inv) (omega arith) (omega arith) (c .class-behind .ensures)
+    k-below : c .loop2 .k < start .args .count * start .args .actions
+    k-below = omega (arith, place, digits-lt row-below h)
 
-same-length : tie.Need-same-length Inv-loop μ-loop
-same-length c = omega arith
+add-class-behind : tie.Need-add-class-behind Inv-loop2 μ-loop2 Inv-loop μ-loop
+add-class-behind c = entry-fits (start (c .before)) _ (omega (arith, row-below (c .before))) _ (c .loop2-test .taken)
 
-returns : tie.Need-returns Inv-loop μ-loop
-returns c = stored-end (c .before .loop .inv) (omega arith)
+class-behind-requires : tie.Need-class-behind-requires Inv-loop2 μ-loop2 Inv-loop μ-loop
+class-behind-requires c κs = entry-inside (start (c .before)) _ (omega (arith, row-below (c .before))) _ (c .loop2-test .taken)
+
+slice-write-out : tie.Need-slice-write-out Inv-loop2 μ-loop2 Inv-loop μ-loop
+slice-write-out c = omega (arith, so-far (c .before .before) .sized, k-below (c .before .before) (c .before .loop2-test .taken))
+
+add-k : tie.Need-add-k Inv-loop2 μ-loop2 Inv-loop μ-loop
+add-k c = omega (arith, k-below (c .before .before) (c .before .loop2-test .taken))
+
+loop2-again : tie.Need-loop2-again Inv-loop2 μ-loop2 Inv-loop μ-loop
+loop2-again c =
+    let z = start (c .before .before) in
+    let t = c .before .loop2-test .taken in (
+      omega arith,
+      omega arith,
+      λ old room s. stored-more (c .before .before .loop2 .inv .2 old room s) (k-below (c .before .before) t) room
+          (c .class-behind .ensures ∙ entry-of (z .args .next .now) (z .args .classes .now) (z .args .firsts .now) _ (place (c .before .before) t) t),
+    )
+
+add-row : tie.Need-add-row Inv-loop2 μ-loop2 Inv-loop μ-loop
+add-row c = omega (arith, row-below (c .before))
+
+loop-less : tie.Need-loop-less Inv-loop2 μ-loop2 Inv-loop μ-loop
+loop-less c = omega (arith, row-below (c .before))
+
+loop-again : tie.Need-loop-again Inv-loop2 μ-loop2 Inv-loop μ-loop
+loop-again c = (
+  omega (arith, row-below (c .before)),
+  rw add-one (rw suc-mul (omega arith)),
+  so-far (c .before),
+)
+
+returns : tie.Need-returns Inv-loop2 μ-loop2 Inv-loop μ-loop
+returns c =
+    let z = c .before .before .before .before .before .before in
+    let e : c .before .loop .row ≡ z .args .count = omega arith in
+    stored-end (c .before .loop .inv .2) (omega (arith, ap (λ (x : ℕ). x * z .args .actions) e))
 
 pub quotient-spec : {M : Type 1} → statement M
 quotient-spec =
     tie.close
     (tie.spec
+    Inv-loop2
+    μ-loop2
     Inv-loop
     μ-loop
     loop-holds
-    mul-loop
-    div-from
-    mul-from
-    shared-slice-read-from
+    (λ c. omega arith)
+    (λ c. omega arith)
     mul-from-2
-    rem-class-behind
+    loop2-holds
     add-class-behind
     class-behind-requires
     slice-write-out
     add-k
+    (λ c. omega arith)
+    (λ c. omega arith)
+    loop2-again
+    add-row
     loop-less
     loop-again
-    same-length
+    (λ c. omega arith)
     returns)

@@ -9,6 +9,7 @@ use lib.ListN.{length, length-set}
 use Rattle.automaton.specs.Partition.{SameSignature, Partition}
 use Rattle.automaton.proofs.Grown.{none-yet, joins, begins, exceeds}
 use Rattle.automaton.proofs.Compared.{signature-equivalence}
+use Rattle.automaton.proofs.Rising.{Risen, risen-none, risen-more, first-risen, class-begun}
 use Rattle.automaton.proofs.refinement.pass.Statement.{statement}
 use Rattle.automaton.proofs.refinement.pass.Tie as tie
 
@@ -19,29 +20,26 @@ Inv-loop next classes finer₀ firsts₀ actions limit count₀ s₀ finer first
     × (length finer ≡ length finer₀)
     × (length firsts ≡ length firsts₀)
     × Partition (SameSignature actions next classes) s count finer firsts
+    × Risen classes finer s
 
 abbrev μ-loop : tie.MeasureT-loop
 μ-loop next classes finer₀ firsts₀ actions limit count₀ s₀ finer firsts count s = length classes - s
 
 loop-holds : tie.Need-loop-holds Inv-loop μ-loop
-loop-holds c = (omega arith, omega arith, refl, refl, none-yet _ _ _)
+loop-holds c = (omega arith, omega arith, refl, refl, none-yet _ _ _, risen-none _ _)
 
 find-class-requires : tie.Need-find-class-requires Inv-loop μ-loop
 find-class-requires c κs =
     let z = c .before .before .before .before .before .before .before in
     let v = c .before .before .loop in
     record {
-      sized = z .pre .sized;
+      sized = z .pre .0 .sized;
       room = omega arith;
       inside = λ d h. lt-of-lt-of-le (v .inv .4 .inside d h) (v .inv .0);
       state = c .before .loop-test .taken;
+      begun = class-begun (v .inv .4) (v .inv .5) (z .pre .1) (c .before .loop-test .taken);
+      risen = first-risen (v .inv .4) (v .inv .5);
     }
-
-same-length : tie.Need-same-length Inv-loop μ-loop
-same-length c = omega arith
-
-same-length-2 : tie.Need-same-length-2 Inv-loop μ-loop
-same-length-2 c = omega arith
 
 returns : tie.Need-returns Inv-loop μ-loop
 returns c =
@@ -53,26 +51,8 @@ returns c =
     (exceeds R (v .s) (v .count) (v .finer) (v .firsts) (v .inv .4) (length (z .args .classes .now)) (omega arith)
     (λ d h. found .ensures .lowest d (rw (c .before .if1 .taken) h)))
 
-mul-firsts : tie.Need-mul-firsts Inv-loop μ-loop
-mul-firsts c = omega arith
-
-slice-write-firsts : tie.Need-slice-write-firsts Inv-loop μ-loop
-slice-write-firsts c = omega arith
-
-add-count : tie.Need-add-count Inv-loop μ-loop
-add-count c = omega arith
-
 cast-finer : tie.Need-cast-finer Inv-loop μ-loop
 cast-finer c = omega (arith, c .before .find-class .ensures .within)
-
-slice-write-finer : tie.Need-slice-write-finer Inv-loop μ-loop
-slice-write-finer c = omega arith
-
-add-s : tie.Need-add-s Inv-loop μ-loop
-add-s c = omega arith
-
-loop-less : tie.Need-loop-less Inv-loop μ-loop
-loop-less c = omega arith
 
 loop-again : tie.Need-loop-again Inv-loop μ-loop
 loop-again c =
@@ -80,6 +60,8 @@ loop-again c =
     let v = c .before .before .before .before .loop in
     let found = c .before .find-class in
     let R = SameSignature (z .args .actions) (z .args .next .now) (z .args .classes .now) in
+    let begun = class-begun (v .inv .4) (v .inv .5) (z .pre .1) (c .before .before .before .loop-test .taken) in
+    let rises = risen-more (v .inv .4) (v .inv .5) begun (omega arith) (found .ensures) in
     ⊎-elim
     (λ w. (
       omega arith,
@@ -89,6 +71,7 @@ loop-again c =
       rw (w .3, w .2, w .0 .taken)
           (begins R (v .s) (v .count) (v .finer) (v .firsts) (v .inv .4) (omega arith) (omega arith) (signature-equivalence _ _ _ .reflexive _)
           (λ d h. found .ensures .lowest d (rw (w .0 .taken) h))),
+      rises,
     ))
     (λ w. (
       omega arith,
@@ -97,14 +80,9 @@ loop-again c =
       rw (w .1) (v .inv .3),
       rw (w .2, w .1)
           (joins R (v .s) (v .count) (v .finer) (v .firsts) (v .inv .4) (found .result) (omega arith) (omega arith) (found .ensures .here (omega arith))),
+      rises,
     ))
     (c .if1 .came)
-
-same-length-3 : tie.Need-same-length-3 Inv-loop μ-loop
-same-length-3 c = omega arith
-
-same-length-4 : tie.Need-same-length-4 Inv-loop μ-loop
-same-length-4 c = omega arith
 
 returns-2 : tie.Need-returns-2 Inv-loop μ-loop
 returns-2 c =
@@ -121,17 +99,17 @@ pass-spec =
     μ-loop
     loop-holds
     find-class-requires
-    same-length
-    same-length-2
+    (λ c. omega arith)
+    (λ c. omega arith)
     returns
-    mul-firsts
-    slice-write-firsts
-    add-count
+    (λ c. omega arith)
+    (λ c. omega arith)
+    (λ c. omega arith)
     cast-finer
-    slice-write-finer
-    add-s
-    loop-less
+    (λ c. omega arith)
+    (λ c. omega arith)
+    (λ c. omega arith)
     loop-again
-    same-length-3
-    same-length-4
+    (λ c. omega arith)
+    (λ c. omega arith)
     returns-2)

@@ -48,15 +48,17 @@ module _ (c : tie.At-loop Inv-loop μ-loop) where
 pass-requires : tie.Need-pass-requires Inv-loop μ-loop
 pass-requires c κs =
     let a = c .before .before .before in
-    let z = start a in
-    record {
-      sized = z .pre .sized ∙ ap (λ (n : ℕ). n * z .args .actions) (sym (still-refining a .paired ∙ all-states a));
-      paired = omega arith;
-      some = omega arith;
-      positive = z .pre .positive;
-      small = z .pre .small;
-      room = omega arith;
-    }
+    let z = start a in (
+      record {
+        sized = z .pre .sized ∙ ap (λ (n : ℕ). n * z .args .actions) (sym (still-refining a .paired ∙ all-states a));
+        paired = omega arith;
+        some = omega arith;
+        positive = z .pre .positive;
+        small = z .pre .small;
+        room = omega arith;
+      },
+      still-refining a .growth,
+    )
 
 -- what the pass found
 module _ (c : tie.After-pass Inv-loop μ-loop) where
@@ -97,29 +99,8 @@ module _ (c : tie.After-pass Inv-loop μ-loop) where
 enum-told : tie.Need-enum-told Inv-loop μ-loop
 enum-told c = search needs
 
-same-length : tie.Need-same-length Inv-loop μ-loop
-same-length c = omega arith
-
-same-length-2 : tie.Need-same-length-2 Inv-loop μ-loop
-same-length-2 c = omega arith
-
-same-length-3 : tie.Need-same-length-3 Inv-loop μ-loop
-same-length-3 c = omega arith
-
 returns : tie.Need-returns Inv-loop μ-loop
 returns c = found-too-many (c .before .before .before .before .before .before) (c .enum-told .given .1)
-
-copy-requires : tie.Need-copy-requires Inv-loop μ-loop
-copy-requires c κs = omega arith
-
-same-length-4 : tie.Need-same-length-4 Inv-loop μ-loop
-same-length-4 c = omega arith
-
-same-length-5 : tie.Need-same-length-5 Inv-loop μ-loop
-same-length-5 c = omega arith
-
-same-length-6 : tie.Need-same-length-6 Inv-loop μ-loop
-same-length-6 c = omega arith
 
 -- the finer classes, copied
 module _ (c : tie.After-slice-known7 Inv-loop μ-loop) where
@@ -162,14 +143,14 @@ refine-spec =
     pass-requires
     (λ c. search needs)
     enum-told
-    same-length
-    same-length-2
-    same-length-3
+    (λ c. omega arith)
+    (λ c. omega arith)
+    (λ c. omega arith)
     returns
-    copy-requires
-    same-length-4
-    same-length-5
-    same-length-6
+    (λ c κs. omega arith)
+    (λ c. omega arith)
+    (λ c. omega arith)
+    (λ c. omega arith)
     returns-2
     loop-less
     loop-again)

@@ -46,8 +46,8 @@ returns c =
 lowest-denier-requires : tie.Need-lowest-denier-requires
 lowest-denier-requires c κs = playable c
 
-move-all-requires : tie.Need-move-all-requires
-move-all-requires c κs = playable (listed c)
+move-places-requires : tie.Need-move-places-requires
+move-places-requires c κs = playable (listed c)
 
 enum-known-denier : tie.Need-enum-known-denier
 enum-known-denier c = search needs
@@ -69,8 +69,8 @@ returns-3 c =
     let d = m .before in
     let w = listed d in
     let q = playable w in
-    subst (λ (n : ℕ). Acts (board w) (area w) (action w) (permitted n) (m .move-all .result .board)) (sym (m .move-all .ensures .1))
-    (act-permitted (q .whole) (q .over .possible) (in-list _ _ _ _ q) (searched d _ (c .enum-told .given .1)) (m .move-all .result .board) (m .move-all .ensures .0))
+    subst (λ (n : ℕ). Acts (board w) (area w) (action w) (permitted n) (m .move-places .result .board)) (sym (m .move-places .ensures .1))
+    (act-permitted (q .whole) (q .over .possible) (in-list _ _ _ _ q) (searched d _ (c .enum-told .given .1)) (m .move-places .result .board) (m .move-places .ensures .0))
 
 pub act-spec : {M : Type 1} → statement M
 act-spec =
@@ -78,7 +78,7 @@ act-spec =
     (tie.spec
     returns
     lowest-denier-requires
-    move-all-requires
+    move-places-requires
     enum-known-denier
     enum-told
     returns-2

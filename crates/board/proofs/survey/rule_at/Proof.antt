@@ -39,13 +39,13 @@ returns c =
     let bad = subst (λ (h : Header). Checked (table w) h) (c .enum-told .given .1) (w .check-at .ensures) in
     λ h. bad (h .holds .formed)
 
-type-number-requires : tie.Need-type-number-requires
-type-number-requires c κs = search needs
+mode-number-requires : tie.Need-mode-number-requires
+mode-number-requires c κs = search needs
 
 returns-2 : tie.Need-returns-2
 returns-2 c =
     let t = c .before in
-    rule-of-other-type _ _ _ _ (formed (t .before .before)) _ _ (λ e. c .if1 .taken (t .type-number .ensures ∙ e))
+    rule-of-other-type _ _ _ _ (formed (t .before .before)) _ _ (λ e. c .if1 .taken (t .mode-number .ensures ∙ e))
 
 byte-requires : tie.Need-byte-requires
 byte-requires c κs = search needs
@@ -53,7 +53,7 @@ byte-requires c κs = search needs
 returns-3 : tie.Need-returns-3
 returns-3 c =
     let t = c .before .before .before in
-    rule-fits _ _ _ _ (formed (t .before .before)) _ _ (sym (t .type-number .ensures) ∙ c .before .before .if1 .left) (omega (arith, c .before .byte .ensures .0))
+    rule-fits _ _ _ _ (formed (t .before .before)) _ _ (sym (t .mode-number .ensures) ∙ c .before .before .if1 .left) (omega (arith, c .before .byte .ensures .0))
 
 returns-4 : tie.Need-returns-4
 returns-4 c =
@@ -68,7 +68,7 @@ rule-at-spec =
     enum-known-mode
     enum-told
     returns
-    type-number-requires
+    mode-number-requires
     returns-2
     byte-requires
     returns-3

@@ -1,4 +1,4 @@
--- `compile_in` meets its contract: the work area filled, the sheet compiled, both areas zeroed.
+-- `compiler::call::compile_in` meets its contract: the sheet compiled, both areas zeroed.
 -- Assumes nothing.
 use native.Mathlib.Omega.{arith}
 use lib.ListN.{length}
@@ -7,22 +7,14 @@ use borrow.Author.Needs.{needs}
 use Rattle.compiler.proofs.call.compile_in.Statement.{statement}
 use Rattle.compiler.proofs.call.compile_in.Tie as tie
 
-compile-with-requires : tie.Need-compile-with-requires
-compile-with-requires c κs =
-    let z = c .before .before .before .before .before .before .before .before .before .before .before in (
-      record { value-low = omega arith; value-high = omega arith; row-low = omega arith; row-high = omega arith },
-      (z .pre .0, (of-length 65536 255 (z .args .work .now) _ (z .pre .1 .0) (c .before .before .before .before .before .fill .ensures), (let e = z .pre .1 .1 in omega arith))),
-    )
-
 returns : tie.Need-returns
 returns c =
     let k = c .before .before .before .before .before .before .before .before .before .before .before .before .before .before in
-    let z = k .before .before .before .before .before .before .before .before .before .before .before .before in
-    let p = k .compile-with .kept in
-    let q = k .before .before .before .before .before .before .fill .kept in (
+    let z = k .before .before .before .before .before .before .before .before in
+    let p = k .compile-with .kept in (
       k .compile-with .ensures,
       (
-        of-length (length (z .args .work .now)) 0 (k .compile-with .last .1 .1 .0) _ (omega arith) (c .before .before .before .before .before .before .fill2 .ensures),
+        of-length (length (z .args .work .now)) 0 (k .compile-with .last .1 .1 .0) _ (omega arith) (c .before .before .before .before .before .before .fill .ensures),
         of-length (length (z .args .values .now)) 0 (k .compile-with .last .1 .1 .1 .0) _ (omega arith) (c .before .before .clear-numbers .ensures),
       ),
     )
@@ -32,7 +24,6 @@ compile-in-spec =
     tie.close
     (tie.spec
     (λ c κs. search needs)
-    compile-with-requires
     (λ c κs. search needs)
     (λ c κs. search needs)
     (λ c. search needs)

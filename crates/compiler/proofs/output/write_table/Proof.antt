@@ -14,7 +14,7 @@ returns c =
     let z = k .before .before .before .before .before .before in
     let a : z .args .actions % 256 ≡ z .args .actions = omega (arith, z .pre .0) in
     let r : z .args .rows % 256 ≡ z .args .rows = omega (arith, z .pre .1 .0) in
-    written-table _ _ _ _ _ _ (z .args .entries .now) (z .args .out .now) _ _ (k .before .before .before .type-number .ensures) a r (k .copy .ensures) (c .before .before .copy2 .ensures)
+    written-table _ _ _ _ _ _ (z .args .entries .now) (z .args .out .now) _ _ (k .before .before .before .mode-number .ensures) a r (k .copy .ensures) (c .before .before .copy2 .ensures)
 
 pub write-table-spec : {M : Type 1} → statement M
 write-table-spec =

@@ -1,44 +1,18 @@
--- `naive::meanings::evaluate` meets its contract. The measure is what is left to count.
+-- `naive::meanings::evaluate` meets its contract.
 -- Assumes nothing.
-use mathlib.Core.Path.{_≡_}
 use Prim.Native.Nat.{_≤_, _-_}
-use borrow.Author.Needs.{needs}
+use mathlib.Core.Path.{_≡_}
 use lib.ListN.{length}
+use Rattle.naive.specs.Truths.{Truths}
+use borrow.Author.Needs.{needs}
 use Rattle.naive.proofs.meanings.evaluate.Statement.{statement}
 use Rattle.naive.proofs.meanings.evaluate.Tie as tie
 
 abbrev Inv-loop : tie.InvT-loop
-Inv-loop bytes laid truths₀ letters₀ kept₀ nodes n₀ truths letters kept n = (n ≤ nodes) × (length truths ≡ length truths₀) × (length letters ≡ length letters₀) × (length kept ≡ length kept₀)
+Inv-loop bytes laid truths₀ nodes n₀ truths n = (n ≤ nodes) × (length truths ≡ length truths₀) × Truths truths
 
 abbrev μ-loop : tie.MeasureT-loop
-μ-loop bytes laid truths₀ letters₀ kept₀ nodes n₀ truths letters kept n = nodes - n
-
-loop-holds : tie.Need-loop-holds Inv-loop μ-loop
-loop-holds c = search needs
-
-evaluate-node-requires : tie.Need-evaluate-node-requires Inv-loop μ-loop
-evaluate-node-requires c κs = search needs
-
-add-n : tie.Need-add-n Inv-loop μ-loop
-add-n c = search needs
-
-loop-less : tie.Need-loop-less Inv-loop μ-loop
-loop-less c = search needs
-
-loop-again : tie.Need-loop-again Inv-loop μ-loop
-loop-again c = search needs
-
-same-length : tie.Need-same-length Inv-loop μ-loop
-same-length c = search needs
-
-same-length-2 : tie.Need-same-length-2 Inv-loop μ-loop
-same-length-2 c = search needs
-
-same-length-3 : tie.Need-same-length-3 Inv-loop μ-loop
-same-length-3 c = search needs
-
-returns : tie.Need-returns Inv-loop μ-loop
-returns c = search needs
+μ-loop bytes laid truths₀ nodes n₀ truths n = nodes - n
 
 pub evaluate-spec : {M : Type 1} → statement M
 evaluate-spec =
@@ -46,12 +20,10 @@ evaluate-spec =
     (tie.spec
     Inv-loop
     μ-loop
-    loop-holds
-    evaluate-node-requires
-    add-n
-    loop-less
-    loop-again
-    same-length
-    same-length-2
-    same-length-3
-    returns)
+    (λ c. search needs)
+    (λ c κs. search needs)
+    (λ c. search needs)
+    (λ c. search needs)
+    (λ c. search needs)
+    (λ c. search needs)
+    (λ c. search needs))

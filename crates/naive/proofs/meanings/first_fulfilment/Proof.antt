@@ -1,8 +1,8 @@
--- `naive::meanings::first_fulfilment` meets its contract. The measure is what is left to count.
+-- `naive::meanings::first_fulfilment` meets its contract.
 -- Assumes nothing.
 use Prim.Native.Nat.{_≤_, _+_, _-_}
-use borrow.Author.Needs.{needs}
 use lib.ListN.{length}
+use borrow.Author.Needs.{needs}
 use Rattle.naive.proofs.meanings.first_fulfilment.Statement.{statement}
 use Rattle.naive.proofs.meanings.first_fulfilment.Tie as tie
 
@@ -12,49 +12,19 @@ Inv-loop truths actions n sequence l₀ l = l ≤ length sequence + 1
 abbrev μ-loop : tie.MeasureT-loop
 μ-loop truths actions n sequence l₀ l = length sequence + 1 - l
 
-loop-holds : tie.Need-loop-holds Inv-loop μ-loop
-loop-holds c = search needs
-
-sub-satisfies : tie.Need-sub-satisfies Inv-loop μ-loop
-sub-satisfies c = search needs
-
-part-satisfies-start : tie.Need-part-satisfies-start Inv-loop μ-loop
-part-satisfies-start c = search needs
-
-part-satisfies-end : tie.Need-part-satisfies-end Inv-loop μ-loop
-part-satisfies-end c = search needs
-
-satisfies-requires : tie.Need-satisfies-requires Inv-loop μ-loop
-satisfies-requires c κs = search needs
-
-returns : tie.Need-returns Inv-loop μ-loop
-returns c = search needs
-
-add-l : tie.Need-add-l Inv-loop μ-loop
-add-l c = search needs
-
-loop-less : tie.Need-loop-less Inv-loop μ-loop
-loop-less c = search needs
-
-loop-again : tie.Need-loop-again Inv-loop μ-loop
-loop-again c = search needs
-
-returns-2 : tie.Need-returns-2 Inv-loop μ-loop
-returns-2 c = search needs
-
 pub first-fulfilment-spec : {M : Type 1} → statement M
 first-fulfilment-spec =
     tie.close
     (tie.spec
     Inv-loop
     μ-loop
-    loop-holds
-    sub-satisfies
-    part-satisfies-start
-    part-satisfies-end
-    satisfies-requires
-    returns
-    add-l
-    loop-less
-    loop-again
-    returns-2)
+    (λ c. search needs)
+    (λ c. search needs)
+    (λ c. search needs)
+    (λ c. search needs)
+    (λ c κs. search needs)
+    (λ c. search needs)
+    (λ c. search needs)
+    (λ c. search needs)
+    (λ c. search needs)
+    (λ c. search needs))

@@ -5,13 +5,12 @@ use mathlib.Core.List.{List, [], _∷_}
 use Prim.Native.Nat.{ℕ}
 use types.Run.{OneOf, miss}
 use denote.Enum.Declared.{tagOf}
-use lib.Seq.{drop-nil}
 use borrow.Author.Needs.{needs}
-use borrow.Author.Tests.{le-leb, lt-leb}
+use borrow.Author.Tests.{lt-leb}
 use native.Mathlib.Omega.{arith}
-use Rattle.rules.specs.declared.Rule.{Rule}
-use Rattle.rules.proofs.Rule.{the-type}
-use Rattle.rules.specs.declared.Rule.the-variants.{Opening, Counting, Same, Both, Either, Copied, Until, Then, Timed, Filtered}
+use Rattle.rules.specs.declared.NodeRule.{NodeRule}
+use Rattle.rules.proofs.NodeRule.{the-type}
+use Rattle.rules.specs.declared.NodeRule.the-variants.{Opening, Counting, Same, Both, Either, Copied, Until, Then, Timed, Filtered}
 use Rattle.rules.specs.Steps.{codeStart}
 use Rattle.rules.proofs.steps.start.Statement.{statement}
 use Rattle.rules.proofs.steps.start.Tie as tie
@@ -19,13 +18,13 @@ use Rattle.rules.proofs.steps.start.Reads as reads
 use Rattle.rules.proofs.steps.start.Lts as lts
 
 module _ (actions : ℕ) (work : List ℕ) where
-  over : (rule : Rule) (k a b c : ℕ) → rule ≡ Timed k a b c → k ≡ 0 → 131072 ≡ codeStart actions work rule
+  over : (rule : NodeRule) (k a b c : ℕ) → rule ≡ Timed k a b c → k ≡ 0 → 131072 ≡ codeStart actions work rule
   over rule k a b c e h = rw (e, h)
 
-  waits : (rule : Rule) (k a b c : ℕ) → rule ≡ Timed k a b c → (k ≡ 0 → ⊥) → 0 ≡ codeStart actions work rule
+  waits : (rule : NodeRule) (k a b c : ℕ) → rule ≡ Timed k a b c → (k ≡ 0 → ⊥) → 0 ≡ codeStart actions work rule
   waits rule k a b c e h = rw (e, lt-leb k 0 (omega arith))
 
-  others : (rule : Rule) → OneOf (0 ∷ 1 ∷ 2 ∷ 3 ∷ 4 ∷ 6 ∷ 7 ∷ 9 ∷ []) (tagOf the-type rule) → 0 ≡ codeStart actions work rule
+  others : (rule : NodeRule) → OneOf (0 ∷ 1 ∷ 2 ∷ 3 ∷ 4 ∷ 6 ∷ 7 ∷ 9 ∷ []) (tagOf the-type rule) → 0 ≡ codeStart actions work rule
   others (Opening s) h = refl
   others (Counting k) h = refl
   others (Same a) h = refl

@@ -6,7 +6,7 @@ use Prim.Native.Nat.{ℕ, _%_}
 use native.Mathlib.Omega.{arith}
 use borrow.Author.Needs.{needs}
 use Rattle.trace.specs.Trace.{Move}
-use Rattle.rules.specs.declared.Rule.{Rule}
+use Rattle.rules.specs.declared.NodeRule.{NodeRule}
 use Rattle.rules.specs.Rules.{partAt, moveOf, Steppable}
 use Rattle.rules.specs.Steps.{codeStep}
 use Rattle.rules.proofs.Stepping.{plain, copied-code}
@@ -14,13 +14,13 @@ use Rattle.rules.proofs.steps.step.Statement.{statement}
 use Rattle.rules.proofs.steps.step.Tie as tie
 
 -- what is asked of a rule is asked of the one that it is known to be
-known : {work : List ℕ} {rule is : Rule} → rule ≡ is → Steppable work rule → Steppable work is
+known : {work : List ℕ} {rule is : NodeRule} → rule ≡ is → Steppable work rule → Steppable work is
 known e h = rw e at h
 
 -- and so is its step
-stepped : (actions : ℕ) (work : List ℕ) (value action : ℕ) {m : Move ℕ} {rule is : Rule} → rule ≡ is
+stepped : (actions : ℕ) (work : List ℕ) (value action : ℕ) {m : Move ℕ} {rule is : NodeRule} → rule ≡ is
     → m ≡ codeStep actions work is value action → m ≡ codeStep actions work rule value action
-stepped actions work value action e h = h ∙ ap (λ (r : Rule). codeStep actions work r value action) (sym e)
+stepped actions work value action e h = h ∙ ap (λ (r : NodeRule). codeStep actions work r value action) (sym e)
 
 row-move-requires : tie.Need-row-move-requires
 row-move-requires c κs =
@@ -40,8 +40,8 @@ either-step-requires c κs =
     let given = known (c .before .rule5 .given .1) (start .pre .0) in
     (given, start .pre .1, start .pre .2)
 
-move-all-requires : tie.Need-move-all-requires
-move-all-requires c κs =
+move-copies-requires : tie.Need-move-copies-requires
+move-copies-requires c κs =
     let start = c .before .before .before .before in
     let given = known (c .before .rule6 .given .1) (start .pre .0) in
     (given .room, given .parts, start .pre .1, start .pre .2)
@@ -100,7 +100,7 @@ returns-6 : tie.Need-returns-6
 returns-6 c =
     let a = c .before .before .before .before .before .args in
     stepped (a .actions) (a .work .now) (a .value) (a .action) (c .before .before .rule6 .given .1)
-    (copied-code (partAt (a .actions) (a .work .now) (c .before .before .rule6 .given .0 .0)) (a .value) (a .action) (moveOf (c .move-all .result)) (c .move-all .ensures))
+    (copied-code (partAt (a .actions) (a .work .now) (c .before .before .rule6 .given .0 .0)) (a .value) (a .action) (moveOf (c .move-copies .result)) (c .move-copies .ensures))
 
 returns-7 : tie.Need-returns-7
 returns-7 c =
@@ -137,7 +137,7 @@ step-spec =
     (λ c. search needs)
     either-step-requires
     (λ c. search needs)
-    move-all-requires
+    move-copies-requires
     (λ c. search needs)
     until-step-requires
     (λ c. search needs)

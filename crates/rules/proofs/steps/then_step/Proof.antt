@@ -19,7 +19,7 @@ enum-told c = search needs
 
 returns-2 : tie.Need-returns-2
 returns-2 c =
-    rw (eq-eqb _ 0 (c .before .before .before .if1 .left), ← rw (c .enum-told .given .1) at (c .before .before .row-move .ensures .0))
+    rw (eq-eqb _ 0 (c .before .before .before .before .if1 .left), ← rw (c .before .enum-told .given .1) at (c .before .before .before .row-move .ensures .0)) (search needs)
 
 returns-3 : tie.Need-returns-3
 returns-3 c =
@@ -33,6 +33,7 @@ then-step-spec =
     returns
     (λ c κs. search needs)
     enum-told
+    (λ c κs. search needs)
     (λ c. search needs)
     returns-2
     returns-3)

@@ -37,16 +37,17 @@ add-t22 c =
 
 returns-3 : tie.Need-returns-3
 returns-3 c =
-    rw (eq-eqb _ 0 (c .before .before .before .if2 .left), ← rw (c .enum-told .given .1) at (c .before .before .row-move .ensures .0))
+    rw (eq-eqb _ 0 (c .before .before .before .before .if2 .left), ← rw (c .before .enum-told .given .1) at (c .before .before .before .row-move .ensures .0)) (search needs)
 
 returns-4 : tie.Need-returns-4
 returns-4 c =
-    let a = c .before .before .before .before .before .before .before .before .args in
+    let a = c .before .before .before .before .before .before .before .before .before .args in
     rw (
-      eq-eqb _ 0 (c .before .before .before .before .before .if2 .left),
-      ← rw (c .before .before .q .given .1) at (c .before .before .before .before .row-move .ensures .0),
+      eq-eqb _ 0 (c .before .before .before .before .before .before .if2 .left),
+      ← rw (c .before .before .before .q .given .1) at (c .before .before .before .before .before .row-move .ensures .0),
       le-leb (a .k) (a .value % 256 + 1) (omega arith),
     )
+    (search needs)
 
 returns-5 : tie.Need-returns-5
 returns-5 c =
@@ -67,8 +68,10 @@ timed-step-spec =
     returns-2
     (λ c κs. search needs)
     enum-told
+    (λ c κs. search needs)
     (λ c. search needs)
     (λ c. search needs)
+    (λ c κs. search needs)
     mul-t21
     add-t22
     returns-3

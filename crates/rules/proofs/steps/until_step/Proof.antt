@@ -15,6 +15,7 @@ enum-told c = search needs
 mul-t17 : tie.Need-mul-t17
 mul-t17 c =
     let small = rw (c .before .q .given .1) at (c .before .before .before .row-move2 .ensures .1) in
+    let low = rw (c .before .before .before .before .before .r .given .1) at (c .before .before .before .before .before .before .before .row-move .ensures .1) in
     omega arith
 
 add-t18 : tie.Need-add-t18

@@ -7,7 +7,7 @@ use native.Mathlib.Omega.{arith}
 use lib.ListN.{length}
 use borrow.Author.Needs.{needs}
 use borrow.Author.Tests.{not-true, not-false}
-use Rattle.sheet.specs.Sheet.{lengthRight, countsRight, areasRight}
+use Rattle.sheet.specs.Layout.{lengthRight, countsRight, areasRight}
 use Rattle.sheet.proofs.Header.{long-enough}
 use Rattle.sheet.proofs.layouts.find_layout.Statement.{statement}
 use Rattle.sheet.proofs.layouts.find_layout.Tie as tie

@@ -19,26 +19,11 @@ abbrev μ-loop : tie.MeasureT-loop
 loop-holds : tie.Need-loop-holds Inv-loop μ-loop
 loop-holds c = stored-none _ _ _
 
-shared-slice-read-next : tie.Need-shared-slice-read-next Inv-loop μ-loop
-shared-slice-read-next c = omega arith
-
 cast-next : tie.Need-cast-next Inv-loop μ-loop
 cast-next c = omega (arith, c .shared-slice-known .given (c .before .before .loop .k))
 
-slice-write-next : tie.Need-slice-write-next Inv-loop μ-loop
-slice-write-next c = omega arith
-
-add-k : tie.Need-add-k Inv-loop μ-loop
-add-k c = omega arith
-
-loop-less : tie.Need-loop-less Inv-loop μ-loop
-loop-less c = omega arith
-
 loop-again : tie.Need-loop-again Inv-loop μ-loop
 loop-again c = stored-more (c .before .before .loop .inv) (omega arith) (omega (arith, c .before .before .before .pre)) refl
-
-same-length : tie.Need-same-length Inv-loop μ-loop
-same-length c = omega arith
 
 returns : tie.Need-returns Inv-loop μ-loop
 returns c =
@@ -53,12 +38,12 @@ widen-spec =
     Inv-loop
     μ-loop
     loop-holds
-    shared-slice-read-next
+    (λ c. omega arith)
     cast-next
     (λ c. search needs)
-    slice-write-next
-    add-k
-    loop-less
+    (λ c. omega arith)
+    (λ c. omega arith)
+    (λ c. omega arith)
     loop-again
-    same-length
+    (λ c. omega arith)
     returns)

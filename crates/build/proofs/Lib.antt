@@ -1,2 +1,0 @@
-pub mod Minimising
-pub mod Building

@@ -1,0 +1,137 @@
+-- The table of a compiled sheet is accepted, has the answer's type, actions and rows, and gives its policy's verdict after every sequence.
+-- Assumes nothing.
+use mathlib.Core.Path.{_≡_, refl, sym, _∙_, ap, subst}
+use mathlib.Core.List.{List}
+use Prim.Native.Nat.{ℕ, _-_, _≤_}
+use native.Mathlib.Omega.{arith}
+use Rattle.trace.specs.declared.Mode.{Mode}
+use Rattle.trace.specs.declared.Mode.the-variants.{Watched, Enforced}
+use Rattle.trace.specs.Trace.{Sequence, trips}
+use Rattle.policy.specs.declared.Bound.{Bound}
+use Rattle.policy.specs.declared.Typing.the-variants.{Typed}
+use Rattle.policy.specs.Policy.{Policy, satisfies}
+use Rattle.policy.specs.Typing.{typeOf as typingOf}
+use Rattle.policy.specs.Trips.{tripsPolicy}
+use Rattle.policy.proofs.Rules.{watched-satisfied, enforced-satisfied}
+use Rattle.automaton.specs.Minimal.{RowsOf}
+use Rattle.table.specs.Table.{typeOf, actionsOf, rowsOf, entriesOf, rowStep, RowsFit, CanonicalRows, Accepted, judged, verdict}
+use Rattle.table.specs.Answer.{accepted as accepts, modeNumber}
+use Rattle.syntax.specs.Nodes.{propositionsOf}
+use Rattle.syntax.specs.Meaning.{sheetPolicy}
+use Rattle.syntax.specs.Typed.{sound, SoundSheet}
+use Rattle.syntax.specs.declared.Sheet.{Sheet}
+use Rattle.syntax.specs.declared.TypedNode.{TypedNode}
+use Rattle.syntax.proofs.Meanings.{policy-of}
+use Rattle.sheet.specs.Judge.{judge}
+use Rattle.node_rules.specs.Nodes.{Tables, tripsNode}
+use Rattle.compiler.specs.Limits.{Built}
+use Rattle.compiler.specs.Compiles.{tableBytes, Builds, builds, Compiles, passes}
+use Rattle.compiler.proofs.Passed.{passed}
+use Rattle.compiler_laws.specs.Demands.{ReadAs, tripsSheet}
+use Rattle.compiler_laws.proofs.TableBytes.{Laid, laid, accepted-bytes}
+
+mode-low : (mode : Mode) → 1 ≤ modeNumber mode
+mode-low Watched = omega arith
+mode-low Enforced = omega arith
+
+mode-high : (mode : Mode) → modeNumber mode ≤ 2
+mode-high Watched = omega arith
+mode-high Enforced = omega arith
+
+-- the verdict of a type, from the trips of a policy of that type
+judged-satisfied : (mode : Mode) (propositions : ℕ → ℕ) (p : Policy) (bound : Bound) → typingOf p ≡ Typed mode bound → (w : List ℕ)
+    → judged (modeNumber mode) (tripsPolicy propositions p w) ≡ satisfies propositions p w
+judged-satisfied Watched propositions p bound e w = sym (watched-satisfied propositions p bound e w)
+judged-satisfied Enforced propositions p bound e w = sym (enforced-satisfied propositions p bound e w)
+
+-- one sheet is read from the bytes
+pub same-sheet : {bytes : List ℕ} {sheet other : Sheet} → ReadAs bytes sheet → ReadAs bytes other → sheet ≡ other
+same-sheet a b = cc (a .judged, b .judged)
+
+-- What a compiled sheet's table is.
+pub record TableOf (sheet : Sheet) (type actions rows : ℕ) (written : List ℕ) : Type 0 where
+  pub accepted : Accepted written
+  pub type-is : typeOf written ≡ type
+  pub actions-are : actionsOf written ≡ actions
+  pub listed : actions ≡ sheet .actions
+  pub rows-are : rowsOf written ≡ rows
+  pub fits : RowsOf (sheet .actions) (tripsSheet sheet) rows (entriesOf written)
+  pub verdicts : (w : List ℕ) → Sequence (sheet .actions) w → verdict written w ≡ satisfies (propositionsOf sheet) (sheetPolicy sheet) w
+
+-- A sheet, read from the bytes, with its table.
+pub record CompiledAs (bytes : List ℕ) (type actions rows : ℕ) (written : List ℕ) : Type 0 where
+  pub sheet : Sheet
+  pub read : ReadAs bytes sheet
+  pub table : TableOf sheet type actions rows written
+
+module _ {mode : Mode} {sheet : Sheet} {types : List TypedNode} (right : SoundSheet mode sheet types) (valueLimit rowLimit : ℕ) (small : rowLimit ≤ 64)
+    (tables : Tables) (b : Built sheet tables valueLimit rowLimit (sheet .count - 1)) (written : List ℕ)
+    (l : Laid written (modeNumber mode) (sheet .actions) (b .rows) (tables (sheet .count - 1))) where
+  rows-fit : RowsFit (b .rows) (sheet .actions) (tables (sheet .count - 1))
+  rows-fit =
+      record {
+        machine = b .fits .machine;
+        rows-low = b .fits .low;
+        rows-high = omega (arith, b .few-rows);
+        actions-low = right .formed .some-action;
+        actions-high = right .formed .few-actions;
+      }
+
+  canonical-rows : CanonicalRows (b .rows) (sheet .actions) (tables (sheet .count - 1))
+  canonical-rows = record { numbered = b .fits .numbered; distinct = b .fits .distinct }
+
+  reads : (w : List ℕ) → Sequence (sheet .actions) w → trips (rowStep written) 0 w ≡ tripsNode sheet (sheet .count - 1) w
+  reads w s = rw (l .actions-are, l .entries-are) (b .fits .reads w s)
+
+  gives : (w : List ℕ) → Sequence (sheet .actions) w → verdict written w ≡ satisfies (propositionsOf sheet) (sheetPolicy sheet) w
+  gives w s =
+      ap (judged (typeOf written)) (reads w s)
+      ∙ ap (λ (type : ℕ). judged type (tripsNode sheet (sheet .count - 1) w)) (l .type-is)
+      ∙ judged-satisfied mode (propositionsOf sheet) (sheetPolicy sheet) (right .bound)
+      (policy-of sheet types right (sheet .count - 1) (omega (arith, right .formed .some-node)) (right .last)) w
+
+  table-of : TableOf sheet (modeNumber mode) (sheet .actions) (b .rows) written
+  table-of =
+      record {
+        accepted = accepted-bytes l (mode-low mode) (mode-high mode) rows-fit canonical-rows;
+        type-is = l .type-is;
+        actions-are = l .actions-are;
+        listed = refl;
+        rows-are = l .rows-are;
+        fits = subst (RowsOf (sheet .actions) (tripsSheet sheet) (b .rows)) (sym (l .entries-are)) (b .fits);
+        verdicts = gives;
+      }
+
+module _ (bytes : List ℕ) (valueLimit rowLimit : ℕ) (small : rowLimit ≤ 64) where
+  from-built : {mode : Mode} {sheet : Sheet} {types : List TypedNode} → judge bytes ≡ sound mode sheet types → {type actions rows : ℕ} {written : List ℕ}
+      → Builds mode sheet types valueLimit rowLimit (accepts type actions rows) written → CompiledAs bytes type actions rows written
+  from-built {mode} {sheet} {types} j (builds tables built last) =
+      record {
+        sheet = sheet;
+        read = record { mode = mode; types = types; judged = j };
+        table =
+            table-of (passed bytes j) valueLimit rowLimit small tables last _ (laid (modeNumber mode) (sheet .actions) (last .rows) (tables (sheet .count - 1)));
+      }
+
+  -- A sheet is compiled to an accepted table that gives its policy's verdict after every sequence.
+  pub compiled-as : {type actions rows : ℕ} {written : List ℕ} → Compiles bytes valueLimit rowLimit (accepts type actions rows) written
+      → CompiledAs bytes type actions rows written
+  compiled-as (passes mode sheet types j answer written b) = from-built j b
+
+  -- A compiled table is accepted.
+  pub compiled-accepted : {type actions rows : ℕ} {written : List ℕ} → Compiles bytes valueLimit rowLimit (accepts type actions rows) written → Accepted written
+  compiled-accepted c = compiled-as c .table .accepted
+
+  -- the same of the sheet that is read from the bytes
+  pub compiled-table : {sheet : Sheet} → ReadAs bytes sheet → {type actions rows : ℕ} {written : List ℕ}
+      → Compiles bytes valueLimit rowLimit (accepts type actions rows) written → TableOf sheet type actions rows written
+  compiled-table {sheet} r {type} {actions} {rows} {written} c = by (compiled-as c)
+    where
+      by : CompiledAs bytes type actions rows written → TableOf sheet type actions rows written
+      by a = subst (λ (s : Sheet). TableOf s type actions rows written) (same-sheet (a .read) r) (a .table)
+
+  -- A compiled table gives its policy's verdict after every sequence.
+  pub compiled-verdict : {sheet : Sheet} → ReadAs bytes sheet → {type actions rows : ℕ} {written : List ℕ}
+      → Compiles bytes valueLimit rowLimit (accepts type actions rows) written → (w : List ℕ) → Sequence (sheet .actions) w
+      → verdict written w ≡ satisfies (propositionsOf sheet) (sheetPolicy sheet) w
+  compiled-verdict r c = compiled-table r c .verdicts

@@ -1,0 +1,146 @@
+// The corpus that the case programs read from standard input, and the counts that they print. A corpus is the number of its records and then
+// their blocks. A number has 16 bits, low byte first; a block is a number and as many bytes. reference/README.md says which blocks a record has.
+ghost use mathlib.Core.Path.{_≡_};
+ghost use Prim.Native.Nat.{_+_, _*_, _<_, _≤_, _%_, _^_};
+ghost use lib.ListN.{length, getD, set};
+ghost use Rattle.io.specs.Counts.{Counts};
+
+// A number, or the length of a block: and whether all of its bytes were there.
+pub struct Read {
+    pub whole: bool,
+    pub number: usize,
+}
+
+// A byte as a number.
+fn wide(byte: u8) -> usize
+    ensures { λ r. ⌜ (r ≡ byte) × (r < 256) ⌝ }
+{
+    byte as usize
+}
+
+// Byte i, or 0 past the end.
+pub fn byte_at(bytes: &[u8], i: usize) -> u8
+    ensures { λ r. ⌜ r ≡ getD (now (bytes .entry)) i 0 ⌝ }
+{
+    if i < bytes.len() { bytes[i] } else { 0 }
+}
+
+// The same as a number.
+pub fn at(bytes: &[u8], i: usize) -> usize
+    ensures { λ r. ⌜ (r ≡ getD (now (bytes .entry)) i 0) × (r < 256) ⌝ }
+{
+    wide(byte_at(bytes, i))
+}
+
+// An answer of the calls for C, which is a number of 32 bits, low byte first.
+pub fn answer_at(bytes: &[u8]) -> usize
+    ensures { λ r. ⌜ r ≡ getD (now (bytes .entry)) 0 0 + 256 * getD (now (bytes .entry)) 1 0 + 65536 * getD (now (bytes .entry)) 2 0 + 16777216 * getD (now (bytes .entry)) 3 0 ⌝ }
+{
+    at(bytes, 0) + 256 * at(bytes, 1) + 65536 * at(bytes, 2) + 16777216 * at(bytes, 3)
+}
+
+fn room_for_number() -> [u8; 2]
+    ensures { λ r. ⌜ 2 ≡ length r ⌝ }
+{
+    [0u8; 2]
+}
+
+// The next number.
+pub fn read_number() -> Read
+    ensures { λ r. ⌜ r .number < 65536 ⌝ }
+{
+    let mut bytes = room_for_number();
+    let got = io::read_full(0, &mut bytes);
+    Read {
+        whole: got == 2,
+        number: at(&bytes, 0) + 256 * at(&bytes, 1),
+    }
+}
+
+// The next block, to the front of `room`. It is not whole where the input ends before it does, or where it is longer than the room.
+pub fn read_block(room: &mut [u8]) -> Read
+    ensures { λ r. ⌜ Counts (r .number) (now (room .exit)) ⌝ }
+{
+    let size = read_number();
+    let asked = size.number;
+    if room.len() < asked {
+        return Read {
+            whole: false,
+            number: 0,
+        };
+    }
+    let got = io::read_full(0, &mut room[..asked]);
+    Read {
+        whole: size.whole & (got == asked),
+        number: got,
+    }
+}
+
+// How many bytes are left to read, two for more.
+pub fn bytes_left() -> usize
+    ensures { λ r. ⌜ r ≤ 2 ⌝ }
+{
+    let mut bytes = room_for_number();
+    io::read_full(0, &mut bytes)
+}
+
+// How much of an area is lent: all of it, or no more than this.
+pub fn lent(short: bool, most: usize, whole: usize) -> usize
+    ensures { λ r. ⌜ r ≤ whole ⌝ }
+{
+    if short {
+        if most < whole {
+            return most;
+        }
+    }
+    whole
+}
+
+// Adds to a count, where there is one of that number.
+pub fn add(counts: &mut [u64], number: usize, more: u64)
+    ensures { λ _. ⌜ now (counts .exit) ≡ set (now (counts .entry)) number ((getD (now (counts .entry)) number 0 + more) % 2 ^ 64) ⌝ }
+{
+    if number < counts.len() {
+        counts[number] = std::num::wrapping_add_u64(counts[number], more);
+    }
+}
+
+// Writes the name of a record on which something disagrees, and answers how many do: 1, or 0 where all agree.
+pub fn note(agreed: bool, name: &[u8]) -> u64
+    ensures { λ r. ⌜ r ≤ 1 ⌝ }
+{
+    if agreed {
+        return 0;
+    }
+    io::write_all(1, b"disagreement: ");
+    io::write_all(1, name);
+    io::write_all(1, b"\n");
+    1
+}
+
+// Writes a count with its number, where it is not 0. Answers how many are written.
+fn show_one(count: u64, number: usize) -> usize
+    ensures { λ r. ⌜ r ≤ 1 ⌝ }
+{
+    if count == 0 {
+        return 0;
+    }
+    io::write_all(1, b" ");
+    io::print_decimal(1, number as u64);
+    io::write_all(1, b":");
+    io::print_decimal(1, count);
+    1
+}
+
+// Writes each count that is not 0 with its number, and answers how many these are.
+pub fn show(counts: &[u64]) -> usize
+    ensures { λ r. ⌜ r ≤ length (now (counts .entry)) ⌝ }
+{
+    let mut shown = 0;
+    let mut number = 0;
+    while number < counts.len() {
+        shown += show_one(counts[number], number);
+        number += 1;
+    }
+    shown
+}

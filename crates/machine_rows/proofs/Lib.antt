@@ -1,0 +1,5 @@
+pub mod Building
+pub mod BuiltSlots
+pub mod Minimising
+pub mod Sequences
+pub mod Slots

@@ -1,0 +1,4 @@
+pub mod Machines
+pub mod Minimises
+pub mod Builds
+pub mod Planned

@@ -1,0 +1,4 @@
+-- What the contracts of the second implementation cite.
+-- Assumes nothing.
+pub mod Bytes
+pub mod Truths

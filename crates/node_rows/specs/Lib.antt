@@ -1,4 +1,0 @@
-pub mod Limits
-pub mod Compiles
-pub mod SheetFacts
-pub mod Building

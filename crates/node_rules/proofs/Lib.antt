@@ -1,0 +1,4 @@
+pub mod Facts
+pub mod FormulaSets
+pub mod NodeRules
+pub mod PropositionSets

@@ -1,0 +1,58 @@
+-- The bytes of a sheet, entry by entry and node by node: their lengths, and one more stored behind those before.
+-- Assumes nothing.
+use mathlib.Core.Path.{_≡_, refl, _∙_}
+use mathlib.Core.List.{List, _++_}
+use Prim.Native.Nat.{ℕ, _+_, _*_}
+use native.Mathlib.Numerals.{add-one}
+use native.Mathlib.Omega.{arith}
+use lib.ListN.{length, getD, drop, length-append}
+use lib.Seq.{sets}
+use Rattle.base.specs.Word.{wordBytes}
+use Rattle.base.proofs.Joined.{length-joined}
+use Rattle.base.proofs.Lists.{sets-then, sets-front}
+use Rattle.syntax.specs.Nodes.{nodeAt}
+use Rattle.syntax.specs.declared.ListedNode.{ListedNode}
+use Rattle.syntax.specs.declared.Sheet.{Sheet}
+use Rattle.sheet.specs.Writing.{nodeBytes, headerBytes, actionBytes, nodesBytes, sheetBytes, Room}
+
+length-actions : (propositions : List ℕ) (a : ℕ) → length (actionBytes propositions a) ≡ 2 * a
+length-actions propositions = length-joined 2 (λ a. wordBytes (getD propositions a 0)) (λ a. refl)
+
+length-nodes : (nodes : List ListedNode) (n : ℕ) → length (nodesBytes nodes n) ≡ 5 * n
+length-nodes nodes = length-joined 5 (λ i. nodeBytes (nodeAt nodes i)) (λ i. refl)
+
+module _ (l : List ℕ) (from : ℕ) where
+  pub actions-more : (propositions : List ℕ) (a : ℕ)
+      → sets (sets l from (actionBytes propositions a)) (from + 2 * a) (wordBytes (getD propositions a 0)) ≡ sets l from (actionBytes propositions (a + 1))
+  actions-more propositions a =
+      rw (add-one a)
+      (sets-then l from (actionBytes propositions a) (wordBytes (getD propositions a 0)) (from + 2 * a) (omega (arith, length-actions propositions a)))
+
+  pub nodes-more : (nodes : List ListedNode) (n : ℕ)
+      → sets (sets l from (nodesBytes nodes n)) (from + 5 * n) (nodeBytes (nodeAt nodes n)) ≡ sets l from (nodesBytes nodes (n + 1))
+  nodes-more nodes n =
+      rw (add-one n)
+      (sets-then l from (nodesBytes nodes n) (nodeBytes (nodeAt nodes n)) (from + 5 * n) (omega (arith, length-nodes nodes n)))
+
+module _ (sheet : Sheet) where
+  pub length-front : length (headerBytes (sheet .actions) (sheet .count) ++ actionBytes (sheet .propositions) (sheet .actions)) ≡ 10 + 2 * sheet .actions
+  length-front =
+      length-append (headerBytes (sheet .actions) (sheet .count)) (actionBytes (sheet .propositions) (sheet .actions))
+      ∙ omega (arith, length-actions (sheet .propositions) (sheet .actions))
+
+  pub length-sheet : length (sheetBytes sheet) ≡ 10 + 2 * sheet .actions + 5 * sheet .count
+  length-sheet =
+      length-append (headerBytes (sheet .actions) (sheet .count) ++ actionBytes (sheet .propositions) (sheet .actions)) (nodesBytes (sheet .nodes) (sheet .count))
+      ∙ omega (arith, length-front, length-nodes (sheet .nodes) (sheet .count))
+
+  -- the three parts stored one behind the other
+  pub sheet-written : (l : List ℕ) {x y z : List ℕ} → Room sheet (length l)
+      → x ≡ sets l 0 (headerBytes (sheet .actions) (sheet .count))
+      → y ≡ sets x 10 (actionBytes (sheet .propositions) (sheet .actions))
+      → z ≡ sets y (10 + 2 * sheet .actions) (nodesBytes (sheet .nodes) (sheet .count))
+      → z ≡ sheetBytes sheet ++ drop (length (sheetBytes sheet)) l
+  sheet-written l r p q e =
+      rw (e, q, p, sets-then l 0 (headerBytes (sheet .actions) (sheet .count)) (actionBytes (sheet .propositions) (sheet .actions)) 10 refl)
+      (sets-then l 0 (headerBytes (sheet .actions) (sheet .count) ++ actionBytes (sheet .propositions) (sheet .actions))
+      (nodesBytes (sheet .nodes) (sheet .count)) (10 + 2 * sheet .actions) (omega (arith, length-front))
+      ∙ sets-front l (sheetBytes sheet) (omega (arith, length-sheet, r .room)))

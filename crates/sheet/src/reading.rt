@@ -1,0 +1,77 @@
+// Reading the action list and the nodes of a sheet.
+use crate::NodeFields;
+use crate::NodeRead;
+use crate::NodesRead;
+use crate::nodes::read_node;
+use base::word;
+use syntax::Fault;
+use syntax::Judged;
+use syntax::ListedNode;
+use syntax::Node;
+ghost use mathlib.Core.Path.{_≡_};
+ghost use Rattle.syntax.specs.Nodes.{noNodes, noPropositions};
+ghost use Rattle.sheet.specs.Layout.{actionsAt, nodesAt, Inside};
+ghost use Rattle.sheet.specs.Reading.{readNodes, readActions};
+
+// No nodes yet.
+pub fn blank_nodes() -> [ListedNode; 64]
+    ensures { λ r. ⌜ r ≡ noNodes ⌝ }
+{
+    [ListedNode { node: Node::True }; 64]
+}
+
+// No actions yet.
+pub fn blank_actions() -> [u16; 16]
+    ensures { λ r. ⌜ r ≡ noPropositions ⌝ }
+{
+    [0u16; 16]
+}
+
+// The propositions of each action. The list stands at `from`.
+pub fn read_actions(bytes: &[u8], from: usize, actions: usize) -> [u16; 16]
+    requires { ⌜ Inside (now bytes) from 2 actions 16 ⌝ }
+    requires { ⌜ from ≡ actionsAt (now bytes) ⌝ }
+    ensures { λ r. ⌜ r ≡ readActions (now (bytes .entry)) actions ⌝ }
+{
+    let mut propositions = blank_actions();
+    let mut a = 0;
+    while a < actions {
+        propositions[a] = word(bytes, from + 2 * a) as u16;
+        a += 1;
+    }
+    propositions
+}
+
+// The nodes one by one, up to the first that fails check 4 or 5. They stand at `from`.
+pub fn read_nodes(bytes: &[u8], from: usize, count: usize) -> NodesRead
+    requires { ⌜ Inside (now bytes) from 5 count 64 ⌝ }
+    requires { ⌜ from ≡ nodesAt (now bytes) ⌝ }
+    ensures { λ r. ⌜ r ≡ readNodes (now (bytes .entry)) count ⌝ }
+{
+    let mut nodes = blank_nodes();
+    let mut n = 0;
+    while n < count {
+        let read = read_node(bytes, from + 5 * n, n);
+        let NodeRead::Known(fields) = read else {
+            return NodesRead {
+                judged: Judged::Faulty(Fault::UnknownKindAt(n)),
+                count: n,
+                nodes,
+            };
+        };
+        let NodeFields::Right(node) = fields else {
+            return NodesRead {
+                judged: Judged::Faulty(Fault::WrongFieldAt(n)),
+                count: n,
+                nodes,
+            };
+        };
+        nodes[n] = ListedNode { node };
+        n += 1;
+    }
+    NodesRead {
+        judged: Judged::Sound,
+        count,
+        nodes,
+    }
+}

@@ -1,0 +1,32 @@
+-- The text of what compiling answers.
+-- Assumes nothing.
+use mathlib.Core.List.{List}
+use Prim.Native.Nat.{ℕ}
+use Rattle.trace.specs.declared.Mode.{Mode}
+use Rattle.table.specs.Answer.{Answer, accepted, refused, modeNumber}
+use Rattle.table.specs.Table.{entriesOf}
+use Rattle.compiler.specs.Compiles.{Compiles}
+use Rattle.printing.specs.Text.{tableText, refusalText}
+use Rattle.printing.specs.declared.Printed.{Printed}
+use Rattle.printing.specs.Printing.{Gives, PrintsTable, PrintsRefusal}
+
+-- A table is printed with its rows' entries, a refusal with its number and spot.
+pub data PrintsAnswer (entries old : List ℕ) : Answer → Printed → List ℕ → Type 0 where
+  of-table : (mode : Mode) (actions rows : ℕ) (printed : Printed) (new : List ℕ) → PrintsTable mode actions rows entries old printed new
+      → PrintsAnswer entries old (accepted (modeNumber mode) actions rows) printed new
+  of-refusal : (number spot : ℕ) (printed : Printed) (new : List ℕ) → PrintsRefusal number spot old printed new
+      → PrintsAnswer entries old (refused number spot) printed new
+
+-- The text of an answer, with the bytes of its table.
+pub data AnswerText (written : List ℕ) : Answer → List ℕ → Type 0 where
+  of-table : (mode : Mode) (actions rows : ℕ) → AnswerText written (accepted (modeNumber mode) actions rows) (tableText mode actions rows (entriesOf written))
+  of-refusal : (number spot : ℕ) → AnswerText written (refused number spot) (refusalText number spot)
+
+-- A sheet is printed: the text of what compiling gives is given to the area.
+pub record PrintsSheet (bytes old : List ℕ) (printed : Printed) (new : List ℕ) : Type 0 where
+  pub answer : Answer
+  pub written : List ℕ
+  pub text : List ℕ
+  pub compiled : Compiles bytes 1024 64 answer written
+  pub said : AnswerText written answer text
+  pub given : Gives text old printed new

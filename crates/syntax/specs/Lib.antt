@@ -1,0 +1,6 @@
+pub mod Nodes
+pub mod Faults
+pub mod Formed
+pub mod Types
+pub mod Meaning
+pub mod Typed

@@ -1,0 +1,14 @@
+//! Writes the corpus: the files stdin and stdout of the programs second_cases, load_cases and board_cases.
+
+use std::path::Path;
+
+fn main() -> std::io::Result<()> {
+    let crates = Path::new(env!("CARGO_MANIFEST_DIR")).join("../crates");
+    for corpus in reference::corpus::all() {
+        let folder = crates.join(corpus.program);
+        std::fs::write(folder.join("stdin"), &corpus.stdin)?;
+        std::fs::write(folder.join("stdout"), &corpus.stdout)?;
+        println!("{}: {} bytes\n{}", corpus.program, corpus.stdin.len(), corpus.stdout);
+    }
+    Ok(())
+}

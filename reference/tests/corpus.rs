@@ -1,0 +1,32 @@
+//! The corpus in the repository is what the command writes, and covers what it is for.
+
+use reference::corpus::{all, sheets};
+use reference::sheet::Sheet;
+use std::path::Path;
+
+#[test]
+fn files_are_what_the_command_writes() {
+    let crates = Path::new(env!("CARGO_MANIFEST_DIR")).join("../crates");
+    let command = "cargo run --manifest-path reference/Cargo.toml --bin corpus";
+    for corpus in all() {
+        let folder = crates.join(corpus.program);
+        let stdin = std::fs::read(folder.join("stdin")).unwrap();
+        let stdout = std::fs::read_to_string(folder.join("stdout")).unwrap();
+        assert!(stdin == corpus.stdin, "{}: stdin is another; {command}", corpus.program);
+        assert!(stdout == corpus.stdout, "{}: stdout is another; {command}", corpus.program);
+    }
+}
+
+/// Every kind is the last node of tables with several rows, and every refusal but 14 is there at least eight times.
+#[test]
+fn sheets_cover_kinds_and_refusals() {
+    let records = sheets::all();
+    for kind in 10..=23 {
+        let tables = records.iter().filter(|record| record.table.len() > 8 && record.table[4] > 1);
+        let last = tables.map(|record| Sheet::read(&record.sheet).unwrap().nodes.last().unwrap().kind);
+        assert!(last.filter(|&last| last == kind).count() >= 5, "kind {kind}");
+    }
+    for number in 1..=9 {
+        assert!(records.iter().filter(|record| record.answer[0] == number).count() >= 8, "refusal {number}");
+    }
+}
