@@ -4,7 +4,7 @@
  *
  *     gcc -std=c11 -O2 -Wall -Wextra -Iinclude -o stack examples/stack.c target/staticlib/liblemondarts.a && ./stack
  *
- * The numbers change with the version of the toolchain; include/lemondarts.h has them rounded up.
+ * The numbers change with the version of the toolchain; include/lemondarts.h has them rounded up. Ends with status 1 where a call takes more.
  */
 #define _XOPEN_SOURCE 700
 #include <stdio.h>
@@ -24,7 +24,7 @@ static uint8_t out[LEMONDARTS_TABLE];
 static uint8_t work[LEMONDARTS_WORK];
 static uint64_t values[LEMONDARTS_VALUES];
 static uint8_t table[LEMONDARTS_TABLE];
-static uint32_t answer;
+static uint64_t answer;
 
 /* Always (After+ (Eventually Now p0) (Before+ (Eventually Now p1) (Always Holds not p0))), over four actions. */
 static const uint8_t sheet[78] = {
@@ -63,9 +63,12 @@ static size_t used(void (*call)(void)) {
     return sizeof stack - untouched;
 }
 
-static void show(const char *name, void (*call)(void), size_t bare) {
-    size_t bytes = used(call);
-    printf("%-24s %6u bytes, answer %u\n", name, (unsigned)(bytes - bare), LEMONDARTS_NUMBER(answer));
+/* Measures a call, and gives whether it takes more than the header says, or answers otherwise than expected. */
+static int show(const char *name, void (*call)(void), size_t bare, size_t most, unsigned number) {
+    size_t bytes = used(call) - bare;
+    int wrong = bytes > most || LEMONDARTS_NUMBER(answer) != number;
+    printf("%-24s %6u bytes, at most %u, answer %u%s\n", name, (unsigned)bytes, (unsigned)most, LEMONDARTS_NUMBER(answer), wrong ? ": WRONG" : "");
+    return wrong;
 }
 
 /* The largest table: 64 rows of 16 actions, a chain in which the last row trips. */
@@ -80,13 +83,14 @@ static void make_table(void) {
 
 int main(void) {
     size_t bare = used(nothing);
+    int wrong = 0;
     make_table();
-    show("load", load, bare);
-    show("compile, up to 64 values", compile, bare);
-    show("compile, more values", compile_wide, bare);
-    show("new_board", new_board, bare);
-    show("put_on", put_on, bare);
-    show("action", action, bare);
-    show("take_off", take_off, bare);
-    return 0;
+    wrong |= show("load", load, bare, LEMONDARTS_STACK_LOAD, LEMONDARTS_DONE);
+    wrong |= show("compile, up to 64 values", compile, bare, LEMONDARTS_STACK_COMPILE, LEMONDARTS_DONE);
+    wrong |= show("compile, more values", compile_wide, bare, LEMONDARTS_STACK_COMPILE, LEMONDARTS_TOO_MANY_ROWS);
+    wrong |= show("new_board", new_board, bare, LEMONDARTS_STACK_CALL, LEMONDARTS_DONE);
+    wrong |= show("put_on", put_on, bare, LEMONDARTS_STACK_LOAD, LEMONDARTS_DONE);
+    wrong |= show("action", action, bare, LEMONDARTS_STACK_CALL, LEMONDARTS_DONE);
+    wrong |= show("take_off", take_off, bare, LEMONDARTS_STACK_CALL, LEMONDARTS_DONE);
+    return wrong;
 }

@@ -1,7 +1,7 @@
 /* Lemondarts: rule sheets, tables and the board, for C and C++.
  *
- * Link with liblemondarts.a (`rt staticlib lemondarts` writes it to target/staticlib/; x86-64 Linux). It needs no other library but memcpy,
- * memmove and memset, allocates nothing, keeps nothing between calls, and may be called from several threads on areas of their own.
+ * What can be linked today is liblemondarts.a, a static archive for x86-64 Linux (`rt staticlib lemondarts` writes it to target/staticlib/,
+ * `make install` installs it). It needs no other library but memcpy, memmove and memset, and allocates nothing.
  *
  * What holds for every call:
  * - It answers every input. A call that is refused or denied leaves the board and the output bytes as they were.
@@ -9,8 +9,16 @@
  *   readable, and writable where the parameter is not const.
  * - The areas lent to one call must not overlap. No call keeps a pointer.
  * - Bytes need no alignment; `values` is aligned as a uint64_t, to 8 bytes.
- * - Stack: compiling takes some 44 KiB, loading and putting on some 3.2 KiB, the others under 1 KiB. examples/stack.c measures it.
+ * - Threads: nothing is kept between calls, so calls on different boards and areas may run at once. Calls on one board, or with one work area,
+ *   come one after the other: the caller holds a lock.
+ * - Stack: compiling takes some 41 KiB, loading and putting on some 3.2 KiB, the others under 1 KiB. LEMONDARTS_STACK_.. below is what to plan
+ *   for; examples/stack.c measures it.
  * - Nothing else is asked of the caller: the contracts of the calls have no precondition.
+ *
+ * What the checks are not. 10, 11 and 25 find bytes that cannot be, not bytes that were changed: a table or a board whose bytes were changed to
+ * another that can be is accepted, and denies and permits by what then stands there. 23 compares the number of actions, not the list: whether
+ * action 2 means the same in all tables is for the caller to see to. So a unit should keep a checksum over record and area (and over each stored
+ * table), look at it before a call and renew it after.
  */
 #ifndef LEMONDARTS_H
 #define LEMONDARTS_H
@@ -18,9 +26,15 @@
 #include <stddef.h>
 #include <stdint.h>
 
-#ifdef __cplusplus
-extern "C" {
-#endif
+/* The version of this header and its calls. A change raises
+ * - MAJOR, where a caller may have to change: a call, a name, an answer, or the bytes of a sheet, a table or a record become others or go;
+ * - MINOR, where something is added: a call, a name, a kind of node;
+ * - PATCH, where neither is so: stack, time, comments.
+ */
+#define LEMONDARTS_VERSION_MAJOR 4
+#define LEMONDARTS_VERSION_MINOR 1
+#define LEMONDARTS_VERSION_PATCH 0
+#define LEMONDARTS_VERSION "4.1.0"
 
 /* Lengths. An area may be longer; what stands behind these lengths is not touched. */
 #define LEMONDARTS_RECORD 16     /* a board's record, in bytes */
@@ -28,17 +42,75 @@ extern "C" {
 #define LEMONDARTS_TABLE 1032    /* the output of compiling, in bytes: the longest table */
 #define LEMONDARTS_WORK 65536    /* the work area of compiling, in bytes */
 #define LEMONDARTS_VALUES 1024   /* the values of compiling, in numbers of 64 bits */
-#define LEMONDARTS_PLACES 8      /* places are numbered 0 to 7 */
 
-/* An answer is one number of four bytes. */
-#define LEMONDARTS_NUMBER(answer) ((unsigned)((uint32_t)(answer) & 255u))         /* 0 done, 255 denied, else a refusal */
-#define LEMONDARTS_VALUE(answer) ((unsigned)((uint32_t)(answer) >> 8 & 255u))     /* see each call; for refusals 4 to 9 the node, else 0 */
-#define LEMONDARTS_ACTIONS(answer) ((unsigned)((uint32_t)(answer) >> 16 & 255u))  /* a table's count of actions, 1 to 16 */
-#define LEMONDARTS_ROWS(answer) ((unsigned)((uint32_t)(answer) >> 24 & 255u))     /* a table's count of rows, 1 to 64 */
+/* Stack, in bytes: at most this much in a call, rounded up, without what the caller and an interrupt take. */
+#define LEMONDARTS_STACK_COMPILE 49152 /* lemondarts_compile */
+#define LEMONDARTS_STACK_LOAD 4096     /* lemondarts_load, lemondarts_put_on */
+#define LEMONDARTS_STACK_CALL 1024     /* the other calls */
+
+/* Limits. */
+#define LEMONDARTS_PLACES 8          /* places are numbered 0 to 7 */
+#define LEMONDARTS_MOST_ACTIONS 16   /* of a sheet or a table */
+#define LEMONDARTS_MOST_NODES 64     /* of a sheet */
+#define LEMONDARTS_MOST_ROWS 64      /* of a table */
+#define LEMONDARTS_MOST_COUNT 60     /* the largest argument of Count and Fulfilling */
+
+/* A sheet: a header (counts of actions and nodes, offsets of the action list and the node list, total length; 16 bits each, low byte first), an
+ * action list (16 bits an action: bit p set where it satisfies proposition p), a node list (five bytes a node: kind, argument, parts a, b, c).
+ * Parts are numbers of earlier nodes; the last node is the policy. include/lemondarts_sheet.h writes sheets.
+ */
+#define LEMONDARTS_SHEET_HEADER 10   /* in bytes */
+#define LEMONDARTS_SHEET_ACTION 2    /* an action of the action list, in bytes */
+#define LEMONDARTS_SHEET_NODE 5      /* a node, in bytes */
+#define LEMONDARTS_SHEET 362         /* the longest sheet with no gap: 16 actions and 64 nodes */
+
+/* A table: a header (type, actions, rows, offset of the rows, which is 8; 16 bits each, low byte first), then a byte for each action of each row:
+ * the next row, or a trip.
+ */
+#define LEMONDARTS_TABLE_HEADER 8    /* in bytes */
+#define LEMONDARTS_TRIP 255u         /* an entry that trips the rule */
+
+/* Kinds of nodes: action formulas. */
+#define LEMONDARTS_KIND_TRUE 1u
+#define LEMONDARTS_KIND_FALSE 2u
+#define LEMONDARTS_KIND_PROPOSITION 3u   /* the argument is its number, 0 to 15 */
+#define LEMONDARTS_KIND_NEGATION 4u      /* not a */
+#define LEMONDARTS_KIND_CONJUNCTION 5u   /* a and b */
+#define LEMONDARTS_KIND_DISJUNCTION 6u   /* a or b */
+
+/* Kinds of nodes: policies. */
+#define LEMONDARTS_KIND_NOW 10u          /* the first action satisfies formula a; watched */
+#define LEMONDARTS_KIND_HOLDS 11u        /* there is no action yet, or the first satisfies formula a; enforced */
+#define LEMONDARTS_KIND_COUNT 12u        /* as many actions as the argument, 1 to 60, or more; watched */
+#define LEMONDARTS_KIND_NOT 13u          /* a is not satisfied; of the other type */
+#define LEMONDARTS_KIND_AND 14u          /* a and b, of one type */
+#define LEMONDARTS_KIND_OR 15u           /* a or b, of one type */
+#define LEMONDARTS_KIND_EVENTUALLY 16u   /* some suffix satisfies a; watched */
+#define LEMONDARTS_KIND_ALWAYS 17u       /* every suffix satisfies a; enforced */
+#define LEMONDARTS_KIND_BEFORE_MINUS 18u /* Before- a b: the prefix up to and with the first fulfilment of a, else the whole, satisfies b; watched */
+#define LEMONDARTS_KIND_BEFORE_PLUS 19u  /* Before+ a b: as Before-, b is enforced; enforced */
+#define LEMONDARTS_KIND_AFTER_MINUS 20u  /* After- a b: a is fulfilled, and what follows satisfies b; watched */
+#define LEMONDARTS_KIND_AFTER_PLUS 21u   /* After+ a b: a is not fulfilled, or what follows satisfies b; enforced */
+#define LEMONDARTS_KIND_FULFILLING 22u   /* a within k actions, the argument: what follows satisfies b; else what follows those k satisfies c; enforced */
+#define LEMONDARTS_KIND_IGNORING 23u     /* without the actions that satisfy formula a, b is satisfied; of b's type */
+
+/* An answer is one number of 64 bits: four fields of 16 bits, lowest first. */
+#define LEMONDARTS_NUMBER(answer) ((unsigned)((uint64_t)(answer) & 65535u))         /* 0 done, 255 denied, else a refusal */
+#define LEMONDARTS_VALUE(answer) ((unsigned)((uint64_t)(answer) >> 16 & 65535u))    /* see each call; for refusals 4 to 9 the node, else 0 */
+#define LEMONDARTS_ACTIONS(answer) ((unsigned)((uint64_t)(answer) >> 32 & 65535u))  /* a table's number of actions, 1 to 16 */
+#define LEMONDARTS_ROWS(answer) ((unsigned)((uint64_t)(answer) >> 48 & 65535u))     /* a table's number of rows, 1 to 64 */
+
+/* Whether a call other than lemondarts_action is done. */
+#define LEMONDARTS_OK(answer) (LEMONDARTS_NUMBER(answer) == LEMONDARTS_DONE)
+
+/* Whether lemondarts_action permits: the number is 0, whatever watched rules the action fulfils. Do not ask `if (!answer)`: the answer to a
+ * permitted action that fulfils a rule is not 0, and the action would be turned down.
+ */
+#define LEMONDARTS_PERMITTED(answer) (LEMONDARTS_NUMBER(answer) == LEMONDARTS_DONE)
 #define LEMONDARTS_FULFILS(answer, place) ((LEMONDARTS_VALUE(answer) >> (place) & 1u) != 0) /* of a permitted action, place 0 to 7 */
 
 /* The length in bytes of the table that a done load or compile speaks of. */
-#define LEMONDARTS_TABLE_LENGTH(answer) ((size_t)8 + (size_t)LEMONDARTS_ROWS(answer) * LEMONDARTS_ACTIONS(answer))
+#define LEMONDARTS_TABLE_LENGTH(answer) ((size_t)LEMONDARTS_TABLE_HEADER + (size_t)LEMONDARTS_ROWS(answer) * LEMONDARTS_ACTIONS(answer))
 
 /* Types, the value of a done load or compile. */
 #define LEMONDARTS_ENFORCED 1u /* trips when its policy becomes violated: denies actions */
@@ -63,15 +135,47 @@ extern "C" {
 #define LEMONDARTS_SHORT_AREA 14u        /* a lent area, or the record, is too short: lend the length above */
 #define LEMONDARTS_PLACE_EMPTY 21u       /* nothing to take off */
 #define LEMONDARTS_PLACE_TAKEN 22u       /* take the old table off first, or use another place */
-#define LEMONDARTS_OTHER_ACTIONS 23u     /* the rules on have another count of actions: take them off first */
+#define LEMONDARTS_OTHER_ACTIONS 23u     /* the rules on have another number of actions: take them off first */
 #define LEMONDARTS_BOARD_EMPTY 24u       /* no rule is on: put one on before asking */
 #define LEMONDARTS_BOARD_IMPOSSIBLE 25u  /* record or area was damaged: make a new board and put the tables on again */
+
+/* A short text for the number of an answer, for logs. */
+static inline const char *lemondarts_refusal_text(unsigned number) {
+    switch (number) {
+    case LEMONDARTS_DONE: return "done";
+    case LEMONDARTS_BAD_LENGTH: return "the sheet is under 10 bytes, or its total is not its length";
+    case LEMONDARTS_BAD_COUNTS: return "the sheet has not 1 to 16 actions and 1 to 64 nodes";
+    case LEMONDARTS_BAD_AREAS: return "the sheet's action list or node list is misplaced";
+    case LEMONDARTS_UNKNOWN_KIND: return "the node's kind is unknown";
+    case LEMONDARTS_BAD_FIELD: return "a part, the argument or an unused field of the node is wrong";
+    case LEMONDARTS_BAD_TYPE: return "a part is of the wrong type, or the last node is no policy";
+    case LEMONDARTS_BOUND_TOO_LARGE: return "the node's bound is above 65534";
+    case LEMONDARTS_TOO_MANY_VALUES: return "the node remembers over 1024 values";
+    case LEMONDARTS_TOO_MANY_ROWS: return "the node needs over 64 rows";
+    case LEMONDARTS_MALFORMED: return "the table's length, header or an entry is wrong";
+    case LEMONDARTS_NOT_CANONICAL: return "the table's rows are misnumbered, not all met, or two are alike";
+    case LEMONDARTS_NO_ACTION: return "the action is not in the rules' list";
+    case LEMONDARTS_NO_PLACE: return "the place is not below 8";
+    case LEMONDARTS_SHORT_AREA: return "a lent area is too short";
+    case LEMONDARTS_PLACE_EMPTY: return "the place is empty";
+    case LEMONDARTS_PLACE_TAKEN: return "the place is taken";
+    case LEMONDARTS_OTHER_ACTIONS: return "the rules on have another number of actions";
+    case LEMONDARTS_BOARD_EMPTY: return "no rule is on";
+    case LEMONDARTS_BOARD_IMPOSSIBLE: return "the board's record or area is damaged";
+    case LEMONDARTS_DENIED: return "denied";
+    default: return "unknown number";
+    }
+}
+
+#ifdef __cplusplus
+extern "C" {
+#endif
 
 /* Loads a table: checks it, and keeps nothing.
  * Reads `table`, any bytes. Writes nothing.
  * Done: the value is the type, with ACTIONS and ROWS. Else 10 or 11.
  */
-uint32_t lemondarts_load(const uint8_t *table, size_t table_len);
+uint64_t lemondarts_load(const uint8_t *table, size_t table_len);
 
 /* Compiles a rule sheet to its table.
  * Reads `sheet`, any bytes. `out` is 1,032 bytes or more, `work` 65,536 bytes or more, `values` 1,024 numbers or more, aligned to 8 bytes.
@@ -80,7 +184,7 @@ uint32_t lemondarts_load(const uint8_t *table, size_t table_len);
  * by node 8, 9. For 4 to 9 the value is the node.
  * `work` and `values` may hold anything. On return they are zero over the lengths above, and unchanged where the answer is 14.
  */
-uint32_t lemondarts_compile(const uint8_t *sheet, size_t sheet_len, uint8_t *out, size_t out_len,
+uint64_t lemondarts_compile(const uint8_t *sheet, size_t sheet_len, uint8_t *out, size_t out_len,
                             uint8_t *work, size_t work_len, uint64_t *values, size_t values_len);
 
 /* The board is two areas that the caller keeps and lends to each call: the record, 16 bytes, and the area, 8,256 bytes, where its tables stand.
@@ -92,25 +196,26 @@ uint32_t lemondarts_compile(const uint8_t *sheet, size_t sheet_len, uint8_t *out
 /* Makes a new board: eight empty places and a zeroed area. Reads neither; writes both.
  * Done, or 14.
  */
-uint32_t lemondarts_new_board(uint8_t *record, size_t record_len, uint8_t *area, size_t area_len);
+uint64_t lemondarts_new_board(uint8_t *record, size_t record_len, uint8_t *area, size_t area_len);
 
 /* Puts a table on an empty place, starting at row 0. Reads record, area and `table`, any bytes; writes the record and the place's 1,032 bytes.
  * `table` may be the output of lemondarts_compile with its length given by LEMONDARTS_TABLE_LENGTH, and may not lie in `area`.
  * Done, or the first of 14, 13, 25, 22, 10, 11, 23.
  */
-uint32_t lemondarts_put_on(uint8_t *record, size_t record_len, uint8_t *area, size_t area_len, size_t place, const uint8_t *table, size_t table_len);
+uint64_t lemondarts_put_on(uint8_t *record, size_t record_len, uint8_t *area, size_t area_len, size_t place, const uint8_t *table, size_t table_len);
 
 /* Empties a place, and zeroes its 1,032 bytes. Reads record and area; writes the record and the place's bytes.
  * Done, or the first of 14, 13, 25, 21.
  */
-uint32_t lemondarts_take_off(uint8_t *record, size_t record_len, uint8_t *area, size_t area_len, size_t place);
+uint64_t lemondarts_take_off(uint8_t *record, size_t record_len, uint8_t *area, size_t area_len, size_t place);
 
 /* Asks whether an action is permitted, and if it is, moves every rule by it. Reads record and area; writes the record where permitted, and never
  * the area.
- * Done is permitted: the value is the set of places whose watched rule this action fulfils, bit p for place p (LEMONDARTS_FULFILS).
- * Denied (255): the value is the lowest place that denies; no rule has moved. Else the first of 14, 25, 24, 12.
+ * Done is permitted (LEMONDARTS_PERMITTED): the value is the set of places whose watched rule this action fulfils, bit p for place p
+ * (LEMONDARTS_FULFILS). Denied (255): the value is the lowest place that denies; no rule has moved. Else the first of 14, 25, 24, 12: carry no
+ * action out.
  */
-uint32_t lemondarts_action(uint8_t *record, size_t record_len, uint8_t *area, size_t area_len, size_t action);
+uint64_t lemondarts_action(uint8_t *record, size_t record_len, const uint8_t *area, size_t area_len, size_t action);
 
 #ifdef __cplusplus
 }

@@ -1,7 +1,9 @@
 //! Times of the library's calls, as ratios to the reference in the same run; of actions also to a
-//! plain scan of the bytes that the check of the board has to read; of minimisation to OpenFst.
-//! Argument: the program built from minimise.cc, if there is one.
+//! plain scan of the bytes that the check of the board has to read, and to the same call written by
+//! hand in C, plain and with SSE2; of minimisation to OpenFst. Argument: the program built from
+//! minimise.cc, if there is one.
 
+mod by_hand;
 #[allow(dead_code)] // not every call is timed
 #[path = "../../tests/fuzz/src/library.rs"]
 mod library;
@@ -9,21 +11,29 @@ mod openfst;
 
 use reference::board::{AREA, PLACES, RECORD};
 use reference::calls::{self, VALUES, WORK};
-use reference::cases::papers;
+use reference::cases::small_roastery;
 use reference::generate::{sheet, Random, Style};
+use reference::machine::Machine;
 use reference::sheet::Sheet;
 use reference::table::LARGEST;
 use reference::trees::*;
 use std::hint::black_box;
 use std::time::Instant;
 
-const REPETITIONS: usize = 41;
-/// Microseconds that one repetition takes at least.
-const BATCH: f64 = 2000.0;
+const REPETITIONS: usize = 301;
+/// Microseconds that one repetition takes at least: few, so that most are not interrupted.
+const BATCH: f64 = 200.0;
+/// Actions before the records are set back.
 const ACTIONS: usize = 64;
+/// Records that the actions go round.
+const RECORDS: usize = 8;
 
 /// The medians of some functions in microseconds a call; repetitions go round all of them.
-fn medians<const N: usize>(mut functions: [&mut dyn FnMut(); N]) -> [f64; N] {
+fn medians<const N: usize>(functions: [&mut dyn FnMut(); N]) -> [f64; N] {
+    medians_of(REPETITIONS, functions)
+}
+
+fn medians_of<const N: usize>(repetitions: usize, mut functions: [&mut dyn FnMut(); N]) -> [f64; N] {
     let mut time = |function: usize, calls: usize| {
         let start = Instant::now();
         (0..calls).for_each(|_| functions[function]());
@@ -34,7 +44,7 @@ fn medians<const N: usize>(mut functions: [&mut dyn FnMut(); N]) -> [f64; N] {
         (BATCH / time(function, 1).max(0.01)).clamp(1.0, 1e6) as usize
     });
     let mut times = [(); N].map(|_| Vec::new());
-    for _ in 0..REPETITIONS {
+    for _ in 0..repetitions {
         (0..N).for_each(|function| times[function].push(time(function, calls[function])));
     }
     times.map(median)
@@ -45,11 +55,13 @@ fn median(mut times: Vec<f64>) -> f64 {
     times[times.len() / 2]
 }
 
-/// Prints times of one call, given for `calls` calls together. The last column is a scan, or a clearing.
-fn line(call: &str, on: &str, calls: usize, [library, reference]: [f64; 2], least: Option<f64>) {
+/// Prints times of one call, given for `calls` calls together: the library's, then others with its ratio to them.
+/// The others are the reference; a scan, or a clearing; the call written by hand, plain and with SSE2.
+fn line(call: &str, on: &str, calls: usize, library: f64, others: &[f64]) {
     let each = |time: f64| time / calls as f64;
-    print!("{call:9} {on:42} {:10.3} {:10.3} {:7.2}", each(library), each(reference), library / reference);
-    println!("{}", least.map_or(String::new(), |least| format!(" {:10.3} {:7.2}", each(least), library / least)));
+    print!("{call:9} {on:52} {:10.3}", each(library));
+    others.iter().for_each(|&other| print!(" {:10.3} {:7.2}", each(other), library / other));
+    println!();
 }
 
 /// The library's compiler over some sheets, with areas of its own.
@@ -76,13 +88,14 @@ fn compile(on: &str, sheets: &[Vec<u8>]) {
         }
     };
     let [library, reference, clearing] = medians([&mut compiler(sheets), &mut by_reference, &mut clearing]);
-    line("compile", on, sheets.len(), [library, reference], Some(clearing));
+    line("compile", on, sheets.len(), library, &[reference, clearing]);
 }
 
 fn load(on: &str, tables: &[Vec<u8>]) {
-    let mut by_library = || tables.iter().for_each(|table| assert!(library::load(black_box(table)) as u8 == 0));
+    let mut by_library = || tables.iter().for_each(|table| assert!(library::load(black_box(table)) as u16 == 0));
     let mut by_reference = || tables.iter().for_each(|table| assert!(reference::load(black_box(table)).is_ok()));
-    line("load", on, tables.len(), medians([&mut by_library, &mut by_reference]), None);
+    let [library, reference] = medians([&mut by_library, &mut by_reference]);
+    line("load", on, tables.len(), library, &[reference]);
 }
 
 /// A board with these tables in its first places.
@@ -110,39 +123,54 @@ fn put_on(on: &str, tables: &[Vec<u8>]) {
             assert!(calls::put_on(&mut other_record, &mut other_area, PLACES - 1, black_box(table)) == 0);
         }
     };
-    let on = format!("{on}, 7 on");
-    line("put on", &on, tables.len(), medians([&mut by_library, &mut by_reference]), None);
+    let [library, reference] = medians([&mut by_library, &mut by_reference]);
+    line("put on", &format!("{on}, 7 on"), tables.len(), library, &[reference]);
 }
 
-/// Random actions, permitted and denied, from the start; the record is set back after every 64.
-fn action(on: &str, tables: &[Vec<u8>]) {
-    let (before, mut area) = board_of(tables);
-    let (mut record, mut other_area, mut other_record) = (before.clone(), area.clone(), before.clone());
+/// Calls with these actions, in turn on each of some records of one area; all records are set to `before` first.
+fn asker<'a>(
+    call: impl Fn(&mut [u8], &[u8], usize) -> u64 + 'a,
+    (before, area): &'a (Vec<u8>, Vec<u8>),
+    records: usize,
+    actions: &'a [usize],
+) -> impl FnMut() + 'a {
+    let mut all = before.repeat(records);
+    move || {
+        all.chunks_exact_mut(RECORD).for_each(|record| record.copy_from_slice(before));
+        for round in actions.chunks(records) {
+            for (record, &action) in all.chunks_exact_mut(RECORD).zip(round) {
+                black_box(call(record, area, black_box(action)));
+            }
+        }
+    }
+}
+
+/// Random actions, permitted and denied, round so many records.
+fn action_on(on: &str, tables: &[Vec<u8>], records: usize) {
+    let board = board_of(tables);
     let mut random = Random(7);
     let actions: Vec<usize> = (0..ACTIONS).map(|_| random.below(tables[0][2] as usize)).collect();
-    let scanned: Vec<Vec<u8>> = tables.to_vec();
-    let mut by_library = || {
-        record.copy_from_slice(&before);
-        for &action in &actions {
-            black_box(library::action(&mut record, &mut area, black_box(action)));
-        }
-    };
-    let mut by_reference = || {
-        other_record.copy_from_slice(&before);
-        for &action in &actions {
-            black_box(calls::action(&mut other_record, &mut other_area, black_box(action)));
-        }
-    };
+    by_hand::check(&board.0, &board.1, &actions);
     let mut by_scan = || {
         for _ in &actions {
-            for table in &scanned {
+            for table in tables {
                 black_box(black_box(table).iter().fold(0u8, |sum, byte| sum.wrapping_add(*byte)));
             }
         }
     };
-    let [library, reference, scan] = medians([&mut by_library, &mut by_reference, &mut by_scan]);
-    let on = format!("{on}, {} on", tables.len());
-    line("action", &on, ACTIONS, [library, reference], Some(scan));
+    let functions: [&mut dyn FnMut(); 5] = [
+        &mut asker(library::action, &board, records, &actions),
+        &mut asker(calls::action, &board, records, &actions),
+        &mut by_scan,
+        &mut asker(by_hand::action, &board, records, &actions),
+        &mut asker(by_hand::action_with_sse2, &board, records, &actions),
+    ];
+    let [library, others @ ..] = medians(functions);
+    line("action", on, ACTIONS, library, &others);
+}
+
+fn action(on: &str, tables: &[Vec<u8>]) {
+    action_on(&format!("{on}, {} on", tables.len()), tables, RECORDS);
 }
 
 fn board_calls(on: &str, tables: &[Vec<u8>]) {
@@ -170,21 +198,29 @@ fn main() {
     println!("the cache. The library's compiler clears its work areas in each call, and its time has that;");
     println!("the reference takes memory from the heap. The scan adds up the bytes of the tables that are");
     println!("on, which is what the check of the board has to read at each action. The clearing zeroes the two");
-    println!("work areas, which is the least that a compilation writes.\n");
+    println!("work areas, which is the least that a compilation writes.");
+    println!("By hand is the same action in plain C (by_hand.c, compiled by gcc -O3): the same record, area,");
+    println!("checks and answers; with SSE2 is the same with intrinsics for the check of a table. Before they are");
+    println!("timed their answers and records are held to the library's, on these actions and on damaged boards.");
+    println!("Actions go round {RECORDS} records on one area, in every column: a unit's actions come seconds apart.");
+    println!("The row of one record again and again has calls back to back: the library writes the record byte by");
+    println!("byte and reads it by one load of 16 bytes, which waits for those stores; and a call that needs what");
+    println!("the one before wrote does not overlap with it in the processor.\n");
     println!(
-        "{:9} {:42} {:>10} {:>10} {:>7} {:>10} {:>7}",
-        "call", "on", "library", "reference", "ratio", "scan/clear", "ratio"
+        "{:9} {:52} {:>10} {:>10} {:>7} {:>10} {:>7} {:>10} {:>7} {:>10} {:>7}",
+        "call", "on", "library", "reference", "ratio", "scan/clear", "ratio", "by hand", "ratio", "with SSE2", "ratio"
     );
 
-    let cases = papers();
+    let cases = small_roastery();
     for name in ["Whenever charge: Before+ drop", "Always Holds not charge", "After- Count 60 Count 4"] {
-        let case = cases.iter().find(|case| case.name == name).expect("a case of the papers");
+        let case = cases.iter().find(|case| case.name == name).expect("a case of the small roastery");
         compile(&format!("{name} ({} bytes)", case.sheet.len()), std::slice::from_ref(&case.sheet));
     }
-    let papers: Vec<Vec<u8>> = cases.into_iter().map(|case| case.sheet).collect();
-    compile(&format!("the papers' sheets ({})", papers.len()), &papers);
-    let tables = tables_of(&papers, 4);
-    board_calls("the papers' tables", &tables);
+    let small_roastery: Vec<Vec<u8>> = cases.into_iter().map(|case| case.sheet).collect();
+    compile(&format!("the small roastery's sheets ({})", small_roastery.len()), &small_roastery);
+    let tables = tables_of(&small_roastery, 4);
+    board_calls("the small roastery's tables", &tables);
+    action_on("the small roastery's tables, 1 on, one record again and again", &tables[..1], 1);
 
     let mut random = Random(2026);
     let style = Style { actions: 16, nodes: 64, inside_limits: true, slips: 0 };
@@ -206,6 +242,32 @@ fn main() {
     let full_sheets = [full.sheet(&sixteen).bytes(), not(full).sheet(&sixteen).bytes()];
     compile("64 rows, 16 actions", &full_sheets);
     board_calls("tables of 64 rows, 16 actions", &tables_of(&full_sheets, 16));
+
+    println!("\nWhat grows: values, rows, bytes on a board. tools/plot draws these.\n");
+    let values = |sheet: &Sheet| {
+        let machines = reference::compile::machines(sheet).expect("inside the limits");
+        machines.iter().map(Machine::states).max().expect("a policy")
+    };
+    let grows = |what: &str, tree: Tree, actions: &[u16]| {
+        let sheet = tree.sheet(actions);
+        let rows = reference::compile(&sheet.bytes()).expect("a table")[4];
+        compile(&format!("{what}: {} values, {rows} rows", values(&sheet)), &[sheet.bytes()]);
+    };
+    for all in 3..=10 {
+        grows("copies", copies_of(all, all - 2), &TWO);
+    }
+    for k in [1, 2, 4, 8, 16, 32, 60] {
+        grows("chain", count(k), &sixteen);
+    }
+    grows("chain", after_watched(count(60), count(4)), &sixteen);
+    for rows in [1, 4, 16, 60] {
+        let table = reference::compile(&count(rows).sheet(&sixteen).bytes()).expect("a table");
+        action(&format!("{} bytes", table.len()), std::slice::from_ref(&table));
+    }
+    let largest = tables_of(&full_sheets, 16);
+    for on in [1, 2, 4, 6, 8] {
+        action(&format!("{} bytes", on * largest[0].len()), &largest[..on]);
+    }
 
     println!("\nMinimisation, microseconds for all machines of the sheets together. The library has no call");
     println!("for it alone: its column is the whole compilation.\n");

@@ -1,6 +1,6 @@
 //! Minimisation by the reference and by OpenFst, on the machines that a sheet's nodes explore.
 
-use crate::{compiler, median, medians, REPETITIONS};
+use crate::{compiler, median, medians_of};
 use reference::compile::{build, machine};
 use reference::machine::Machine;
 use reference::sheet::Sheet;
@@ -11,6 +11,8 @@ use std::io::Write as _;
 use std::process::{Command, Stdio};
 
 const ROUNDS: usize = 5;
+/// Repetitions in a round.
+const REPETITIONS: usize = 21;
 
 /// The machines of a sheet's nodes before minimisation, up to the first that is refused.
 fn machines(sheet: &Sheet) -> Vec<Machine> {
@@ -44,7 +46,7 @@ pub fn compare(name: &str, program: Option<&str>, sheets: &[Sheet]) {
     // In rounds, so that all see the machine alike.
     let mut times = [Vec::new(), Vec::new(), Vec::new()];
     for _ in 0..ROUNDS {
-        let [library, reference] = medians([&mut compiler(&bytes), &mut minimise]);
+        let [library, reference] = medians_of(REPETITIONS, [&mut compiler(&bytes), &mut minimise]);
         times[0].push(library);
         times[1].push(reference);
         times[2].push(program.map_or(0.0, |program| by_openfst(program, &machines)));

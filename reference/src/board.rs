@@ -33,9 +33,7 @@ pub struct Board<'a> {
 impl<'a> Board<'a> {
     /// Takes record and area as they are; 14 if one is too short.
     pub fn lent(record: &'a mut [u8], area: &'a mut [u8]) -> Result<Board<'a>, u8> {
-        if record.len() < RECORD || area.len() < AREA {
-            return Err(14);
-        }
+        long_enough(record, area)?;
         Ok(Board { record, area })
     }
 
@@ -51,7 +49,7 @@ impl<'a> Board<'a> {
         if place >= PLACES {
             return Err(13);
         }
-        let (mut places, actions) = self.places()?;
+        let (mut places, actions) = places(self.record, self.area)?;
         if places[place] != Place::Empty {
             return Err(22);
         }
@@ -63,7 +61,7 @@ impl<'a> Board<'a> {
         room.fill(0);
         room[..bytes.len()].copy_from_slice(bytes);
         places[place] = if table.kind == ENFORCED { Place::Enforced(0) } else { Place::Watched(0) };
-        self.write(&places);
+        write(self.record, &places);
         Ok(())
     }
 
@@ -71,78 +69,91 @@ impl<'a> Board<'a> {
         if place >= PLACES {
             return Err(13);
         }
-        let (mut places, _) = self.places()?;
+        let (mut places, _) = places(self.record, self.area)?;
         if places[place] == Place::Empty {
             return Err(21);
         }
         self.room(place).fill(0);
         places[place] = Place::Empty;
-        self.write(&places);
+        write(self.record, &places);
         Ok(())
     }
 
     pub fn action(&mut self, action: usize) -> Result<Verdict, u8> {
-        let (mut places, actions) = self.places()?;
-        let actions = actions.ok_or(24)? as usize;
-        if action >= actions {
-            return Err(12);
-        }
-        let mut fulfilled = 0;
-        for (number, place) in places.iter_mut().enumerate() {
-            let entry = |row| self.area[LARGEST * number + HEADER + row * actions + action];
-            *place = match *place {
-                Place::Enforced(row) if entry(row) == TRIP => return Ok(Verdict::Denied(number as u8)),
-                Place::Enforced(row) => Place::Enforced(entry(row) as usize),
-                Place::Watched(row) if entry(row) == TRIP => {
-                    fulfilled |= 1 << number;
-                    Place::Fulfilled
-                }
-                Place::Watched(row) => Place::Watched(entry(row) as usize),
-                other => other,
-            };
-        }
-        self.write(&places);
-        Ok(Verdict::Permitted(fulfilled))
-    }
-
-    /// The places and the number of actions of the rules that are on; 25 if the board cannot be.
-    fn places(&self) -> Result<([Place; PLACES], Option<u8>), u8> {
-        let mut places = [Place::Empty; PLACES];
-        let mut actions = None;
-        for (number, place) in places.iter_mut().enumerate() {
-            let row = self.record[2 * number + 1] as usize;
-            *place = match self.record[2 * number] {
-                0 => continue,
-                1 => Place::Enforced(row),
-                2 => Place::Watched(row),
-                3 => Place::Fulfilled,
-                _ => Place::Enforced(256),
-            };
-            let table = table::shape(&self.area[LARGEST * number..][..LARGEST]).ok_or(25)?;
-            if !fits(*place, &table) || actions.is_some_and(|actions| actions != table.actions) {
-                return Err(25);
-            }
-            actions = Some(table.actions);
-        }
-        Ok((places, actions))
+        act(self.record, self.area, action)
     }
 
     fn room(&mut self, place: usize) -> &mut [u8] {
         &mut self.area[LARGEST * place..][..LARGEST]
     }
+}
 
-    /// Writes the whole record; the row of an empty or fulfilled place is 0.
-    fn write(&mut self, places: &[Place; PLACES]) {
-        for (number, place) in places.iter().enumerate() {
-            let (case, row) = match *place {
-                Place::Empty => (0, 0),
-                Place::Enforced(row) => (1, row),
-                Place::Watched(row) => (2, row),
-                Place::Fulfilled => (3, 0),
-            };
-            self.record[2 * number] = case;
-            self.record[2 * number + 1] = row as u8;
+/// An action on a lent board. The area is only read.
+pub fn act(record: &mut [u8], area: &[u8], action: usize) -> Result<Verdict, u8> {
+    long_enough(record, area)?;
+    let (mut places, actions) = places(record, area)?;
+    let actions = actions.ok_or(24)? as usize;
+    if action >= actions {
+        return Err(12);
+    }
+    let mut fulfilled = 0;
+    for (number, place) in places.iter_mut().enumerate() {
+        let entry = |row| area[LARGEST * number + HEADER + row * actions + action];
+        *place = match *place {
+            Place::Enforced(row) if entry(row) == TRIP => return Ok(Verdict::Denied(number as u8)),
+            Place::Enforced(row) => Place::Enforced(entry(row) as usize),
+            Place::Watched(row) if entry(row) == TRIP => {
+                fulfilled |= 1 << number;
+                Place::Fulfilled
+            }
+            Place::Watched(row) => Place::Watched(entry(row) as usize),
+            other => other,
+        };
+    }
+    write(record, &places);
+    Ok(Verdict::Permitted(fulfilled))
+}
+
+fn long_enough(record: &[u8], area: &[u8]) -> Result<(), u8> {
+    if record.len() < RECORD || area.len() < AREA {
+        return Err(14);
+    }
+    Ok(())
+}
+
+/// The places and the number of actions of the rules that are on; 25 if the board cannot be.
+fn places(record: &[u8], area: &[u8]) -> Result<([Place; PLACES], Option<u8>), u8> {
+    let mut places = [Place::Empty; PLACES];
+    let mut actions = None;
+    for (number, place) in places.iter_mut().enumerate() {
+        let row = record[2 * number + 1] as usize;
+        *place = match record[2 * number] {
+            0 => continue,
+            1 => Place::Enforced(row),
+            2 => Place::Watched(row),
+            3 => Place::Fulfilled,
+            _ => Place::Enforced(256),
+        };
+        let table = table::shape(&area[LARGEST * number..][..LARGEST]).ok_or(25)?;
+        if !fits(*place, &table) || actions.is_some_and(|actions| actions != table.actions) {
+            return Err(25);
         }
+        actions = Some(table.actions);
+    }
+    Ok((places, actions))
+}
+
+/// Writes the whole record; the row of an empty or fulfilled place is 0.
+fn write(record: &mut [u8], places: &[Place; PLACES]) {
+    for (number, place) in places.iter().enumerate() {
+        let (case, row) = match *place {
+            Place::Empty => (0, 0),
+            Place::Enforced(row) => (1, row),
+            Place::Watched(row) => (2, row),
+            Place::Fulfilled => (3, 0),
+        };
+        record[2 * number] = case;
+        record[2 * number + 1] = row as u8;
     }
 }
 

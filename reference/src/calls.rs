@@ -1,5 +1,5 @@
-//! The library's six calls on lent areas, answered by the reference. The answer is one word:
-//! number, value, actions, rows, a byte each from the lowest.
+//! The library's six calls on lent areas, answered by the reference. An answer is one number of
+//! 64 bits: number, value, actions, rows, 16 bits each from the lowest.
 
 use crate::board::{Board, Verdict};
 use crate::table::{self, Table, LARGEST};
@@ -10,23 +10,38 @@ pub const VALUES: usize = 1024;
 /// The number of a denied action.
 pub const DENIED: u8 = 255;
 
-fn answer(number: u8, value: u8) -> u32 {
-    u32::from_le_bytes([number, value, 0, 0])
+/// The number of an answer's four fields.
+fn pack(fields: [u8; 4]) -> u64 {
+    fields.iter().rev().fold(0, |packed, &field| packed << 16 | field as u64)
 }
 
-fn accepted(table: Table) -> u32 {
-    u32::from_le_bytes([0, table.kind, table.actions, table.rows])
+/// The four fields of an answer: number, value, actions, rows.
+pub fn fields(answer: u64) -> [u16; 4] {
+    [0, 16, 32, 48].map(|lowest| (answer >> lowest) as u16)
 }
 
-fn done(result: Result<(), u8>) -> u32 {
+/// The same as four bytes, as the corpus has them. Every field is below 256.
+pub fn bytes(answer: u64) -> [u8; 4] {
+    fields(answer).map(|field| u8::try_from(field).expect("a field below 256"))
+}
+
+fn answer(number: u8, value: u8) -> u64 {
+    pack([number, value, 0, 0])
+}
+
+fn accepted(table: Table) -> u64 {
+    pack([0, table.kind, table.actions, table.rows])
+}
+
+fn done(result: Result<(), u8>) -> u64 {
     answer(result.err().unwrap_or(0), 0)
 }
 
-pub fn load(bytes: &[u8]) -> u32 {
+pub fn load(bytes: &[u8]) -> u64 {
     table::load(bytes).map_or_else(|number| answer(number, 0), accepted)
 }
 
-pub fn compile(sheet: &[u8], out: &mut [u8], work: &mut [u8], values: &mut [u64]) -> u32 {
+pub fn compile(sheet: &[u8], out: &mut [u8], work: &mut [u8], values: &mut [u64]) -> u64 {
     if out.len() < LARGEST || work.len() < WORK || values.len() < VALUES {
         return answer(14, 0);
     }
@@ -41,20 +56,20 @@ pub fn compile(sheet: &[u8], out: &mut [u8], work: &mut [u8], values: &mut [u64]
     }
 }
 
-pub fn new_board(record: &mut [u8], area: &mut [u8]) -> u32 {
+pub fn new_board(record: &mut [u8], area: &mut [u8]) -> u64 {
     done(Board::new(record, area).map(|_| ()))
 }
 
-pub fn put_on(record: &mut [u8], area: &mut [u8], place: usize, bytes: &[u8]) -> u32 {
+pub fn put_on(record: &mut [u8], area: &mut [u8], place: usize, bytes: &[u8]) -> u64 {
     done(Board::lent(record, area).and_then(|mut board| board.put_on(place, bytes)))
 }
 
-pub fn take_off(record: &mut [u8], area: &mut [u8], place: usize) -> u32 {
+pub fn take_off(record: &mut [u8], area: &mut [u8], place: usize) -> u64 {
     done(Board::lent(record, area).and_then(|mut board| board.take_off(place)))
 }
 
-pub fn action(record: &mut [u8], area: &mut [u8], action: usize) -> u32 {
-    match Board::lent(record, area).and_then(|mut board| board.action(action)) {
+pub fn action(record: &mut [u8], area: &[u8], action: usize) -> u64 {
+    match crate::board::act(record, area, action) {
         Ok(Verdict::Permitted(places)) => answer(0, places),
         Ok(Verdict::Denied(place)) => answer(DENIED, place),
         Err(number) => answer(number, 0),

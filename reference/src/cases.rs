@@ -89,8 +89,8 @@ fn fulfilling_log(k: u8) -> Tree {
     fulfilling(k, now(prop(LOG)), holds(yes()), always(holds(but(prop(DROP)))))
 }
 
-/// All cases of "A small roastery", in the paper's order.
-pub fn papers() -> Vec<Case> {
+/// All cases of docs/FORMATS.md, "A small roastery".
+pub fn small_roastery() -> Vec<Case> {
     use Stated::*;
     let over = |name, tree: Tree, actions: &[u16], stated| case(name, tree.sheet(actions).bytes(), stated);
     let four = |name, tree, stated| over(name, tree, &ROASTERY, stated);
@@ -123,11 +123,11 @@ pub fn papers() -> Vec<Case> {
     ]
 }
 
-/// The table that the paper states for one of its cases.
-pub fn papers_table(name: &str) -> Vec<u8> {
-    let found = papers().into_iter().find(|case| case.name == name);
+/// The table that is stated for one of them.
+pub fn small_roastery_table(name: &str) -> Vec<u8> {
+    let found = small_roastery().into_iter().find(|case| case.name == name);
     match found.map(|case| case.stated) {
         Some(Stated::Table(text)) => table_bytes(text),
-        _ => panic!("the paper states no table for {name}"),
+        _ => panic!("no table is stated for {name}"),
     }
 }

@@ -6,7 +6,7 @@ use crate::calls;
 use std::slice::{from_raw_parts, from_raw_parts_mut};
 
 #[no_mangle]
-pub unsafe extern "C" fn lemondarts_load(table: *const u8, table_len: usize) -> u32 {
+pub unsafe extern "C" fn lemondarts_load(table: *const u8, table_len: usize) -> u64 {
     calls::load(from_raw_parts(table, table_len))
 }
 
@@ -20,7 +20,7 @@ pub unsafe extern "C" fn lemondarts_compile(
     work_len: usize,
     values: *mut u64,
     values_len: usize,
-) -> u32 {
+) -> u64 {
     calls::compile(
         from_raw_parts(sheet, sheet_len),
         from_raw_parts_mut(out, out_len),
@@ -35,7 +35,7 @@ pub unsafe extern "C" fn lemondarts_new_board(
     record_len: usize,
     area: *mut u8,
     area_len: usize,
-) -> u32 {
+) -> u64 {
     calls::new_board(from_raw_parts_mut(record, record_len), from_raw_parts_mut(area, area_len))
 }
 
@@ -48,7 +48,7 @@ pub unsafe extern "C" fn lemondarts_put_on(
     place: usize,
     table: *const u8,
     table_len: usize,
-) -> u32 {
+) -> u64 {
     let (record, area) = (from_raw_parts_mut(record, record_len), from_raw_parts_mut(area, area_len));
     calls::put_on(record, area, place, from_raw_parts(table, table_len))
 }
@@ -60,7 +60,7 @@ pub unsafe extern "C" fn lemondarts_take_off(
     area: *mut u8,
     area_len: usize,
     place: usize,
-) -> u32 {
+) -> u64 {
     calls::take_off(from_raw_parts_mut(record, record_len), from_raw_parts_mut(area, area_len), place)
 }
 
@@ -68,9 +68,9 @@ pub unsafe extern "C" fn lemondarts_take_off(
 pub unsafe extern "C" fn lemondarts_action(
     record: *mut u8,
     record_len: usize,
-    area: *mut u8,
+    area: *const u8,
     area_len: usize,
     action: usize,
-) -> u32 {
-    calls::action(from_raw_parts_mut(record, record_len), from_raw_parts_mut(area, area_len), action)
+) -> u64 {
+    calls::action(from_raw_parts_mut(record, record_len), from_raw_parts(area, area_len), action)
 }

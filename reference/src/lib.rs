@@ -1,4 +1,4 @@
-//! The reference: document 01 once more, in plain Rust, written from the document by itself.
+//! The reference: docs/FORMATS.md once more, in plain Rust, written from what it states and by itself.
 //! It shares no code and no algorithm with the library: remembered values are collected in hash
 //! maps, rows are minimised by Hopcroft's algorithm, and a table is judged by building it anew.
 
@@ -22,7 +22,7 @@ pub use board::{Board, Verdict};
 pub use compile::compile;
 pub use table::load;
 
-/// A refusal of the compiler: document 01's number and its spot.
+/// A refusal of the compiler: its number and its spot (docs/FORMATS.md).
 #[derive(Clone, Copy, Debug, PartialEq, Eq)]
 pub struct Refusal {
     pub number: u8,

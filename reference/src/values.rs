@@ -1,4 +1,4 @@
-//! What a policy node remembers while it has not tripped, and its step, by document 01's table.
+//! What a policy node remembers while it has not tripped, and its step, by the table of docs/FORMATS.md, "Policies".
 
 use crate::machine::Rows;
 use crate::sheet::Node;

@@ -1,7 +1,7 @@
 //! The board: refusals in their order, impossible boards, and histories against the sequences.
 
 use reference::board::{AREA, RECORD};
-use reference::cases::papers_table;
+use reference::cases::small_roastery_table;
 use reference::compile;
 use reference::generate::Random;
 use reference::table::LARGEST;
@@ -109,7 +109,7 @@ fn impossible_boards() {
 fn histories() {
     let rules = [
         table(always(holds(but(prop(0))))),
-        papers_table("Whenever charge: Before+ drop"),
+        small_roastery_table("Whenever charge: Before+ drop"),
         table(eventually(now(prop(1)))),
         table(count(3)),
         table(after_enforced(eventually(now(prop(1))), holds(prop(3)))),

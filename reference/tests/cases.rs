@@ -1,7 +1,9 @@
-//! The reference against the answers that are stated beside the cases, the papers' first.
+//! The reference against the answers that are stated beside the cases, those of "A small roastery" first.
 
 use reference::cases::histories;
-use reference::cases::{counted, papers, papers_table, sheets, table_bytes, tables, type_byte, Case, Lent, Stated};
+use reference::cases::{
+    counted, sheets, small_roastery, small_roastery_table, table_bytes, tables, type_byte, Case, Lent, Stated,
+};
 use reference::corpus::calls::Desk;
 use reference::trees::*;
 use reference::{calls, load, Refusal};
@@ -12,7 +14,8 @@ fn answer_to(case: &Case) -> Result<Vec<u8>, Refusal> {
     let mut out = vec![0; short(Lent::ShortTable, 1032)];
     let mut work = vec![1; short(Lent::ShortWork, calls::WORK)];
     let mut values = vec![1; short(Lent::ShortValues, calls::VALUES)];
-    let [number, value, actions, rows] = calls::compile(&case.sheet, &mut out, &mut work, &mut values).to_le_bytes();
+    let answer = calls::compile(&case.sheet, &mut out, &mut work, &mut values);
+    let [number, value, actions, rows] = calls::bytes(answer);
     match number {
         0 => Ok(out[..8 + actions as usize * rows as usize].to_vec()),
         _ => Err(Refusal { number, spot: value }),
@@ -36,14 +39,14 @@ fn check(case: Case) {
 
 #[test]
 fn papers_cases() {
-    papers().into_iter().for_each(check);
+    small_roastery().into_iter().for_each(check);
 }
 
 #[test]
 fn sheet_of_78_bytes() {
-    let case = papers().pop().expect("the last case");
+    let case = small_roastery().pop().expect("the last case");
     assert_eq!(case.sheet.len(), 78);
-    assert_eq!(papers_table(&case.name), [1, 0, 4, 0, 2, 0, 8, 0, 1, 0, 0, 0, 255, 0, 1, 1]);
+    assert_eq!(small_roastery_table(&case.name), [1, 0, 4, 0, 2, 0, 8, 0, 1, 0, 0, 0, 255, 0, 1, 1]);
 }
 
 #[test]

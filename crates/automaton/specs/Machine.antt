@@ -1,5 +1,5 @@
 -- A deterministic machine as a flat list of next states: entry s * actions + a is where action a leads from state s, or the mark, a trip.
--- A table's rows are such a machine; document 01's row is a state.
+-- A table's rows are such a machine; a table's row is a state.
 -- Assumes nothing.
 use mathlib.Core.Path.{_≡_}
 use mathlib.Core.Bool.{Bool, true, false}

@@ -2,9 +2,18 @@
 use crate::signature::class_behind;
 ghost use mathlib.Core.Path.{_≡_};
 ghost use mathlib.Core.List.{_++_};
-ghost use Prim.Native.Nat.{_*_};
-ghost use lib.ListN.{drop};
+ghost use Prim.Native.Nat.{_*_, _<_};
+ghost use lib.ListN.{length, drop};
+ghost use Rattle.automaton.specs.Partition.{firstOf};
 ghost use Rattle.automaton.specs.Quotient.{quotientRows, Divisible};
+
+// The first member of a class.
+fn first_of(firsts: &[usize], class: usize) -> usize
+    requires { ⌜ class < length (now firsts) ⌝ }
+    ensures { λ r. ⌜ r ≡ firstOf (now (firsts .entry)) class ⌝ }
+{
+    firsts[class]
+}
 
 // Writes a row for each class: the classes behind its first member, 255 for a trip.
 pub fn quotient(
@@ -20,7 +29,7 @@ pub fn quotient(
 {
     let mut k = 0;
     for row in 0..count {
-        let from = firsts[row] * actions;
+        let from = first_of(firsts, row) * actions;
         for action in 0..actions {
             out[k] = class_behind(next, classes, from + action);
             k += 1;

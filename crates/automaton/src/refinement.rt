@@ -24,7 +24,8 @@ fn find_class(
 {
     let class = class_of(classes, s);
     let row = s * actions;
-    'rows: for c in class as usize..count {
+    let lowest = class as usize;
+    'rows: for c in lowest..count {
         let first = firsts[c];
         if class_of(classes, first) != class {
             continue 'rows;

@@ -1,41 +1,26 @@
--- A rule moved by an action: what its case asks of the table, and where its entry takes it.
+-- A rule under an action, by the entry in its row.
 -- Assumes nothing.
 use mathlib.Core.Path.{_≡_, refl, ap, sym, _∙_}
-use mathlib.Core.Bool.{Bool, true, false, cond}
 use mathlib.Core.List.{List}
 use Prim.Native.Nat.{ℕ}
 use lib.Dec.{eqb}
-use borrow.Author.Tests.{eq-eqb, ne-eqb}
-use Rattle.board.specs.Calls.{entryAt, denies}
-use Rattle.board.specs.Steps.{Readable, Ready, Steps}
-use Rattle.board.specs.declared.Case.the-variants.{Enforced, Watched, Fulfilled}
+use mathlib.Core.Bool.{false}
+use Rattle.board.specs.Calls.{watchedMove}
+use Rattle.board.specs.Steps.{StepsBy}
+use Rattle.board.specs.declared.Case.{Case}
+use Rattle.board.specs.declared.Case.the-variants.{Empty, Enforced, Watched, Fulfilled}
 
-module _ (area : List ℕ) (place row actions action : ℕ) where
-  pub readable-enforced : Ready area place (Enforced row) actions action → Readable area place row actions action
-  readable-enforced r =
-      record { within = r .within; formed = r .fits .0 .formed; acting = r .acting refl; row-below = r .fits .1; listed = r .listed }
+-- an empty place stays so, and a fulfilled rule too, with nothing reported
+pub steps-empty : (entry : ℕ) → StepsBy Empty entry Empty false false
+steps-empty entry = record { steps = λ table action f. record { goes = refl; denied = refl; reported = refl } }
 
-  pub readable-watched : Ready area place (Watched row) actions action → Readable area place row actions action
-  readable-watched r =
-      record { within = r .within; formed = r .fits .0 .formed; acting = r .acting refl; row-below = r .fits .1; listed = r .listed }
+pub steps-fulfilled : (entry : ℕ) → StepsBy Fulfilled entry Fulfilled false false
+steps-fulfilled entry = record { steps = λ table action f. record { goes = refl; denied = refl; reported = refl } }
 
--- a rule that is fulfilled stays so, and is not reported again
-pub steps-fulfilled-before : (table : List ℕ) (action : ℕ) → Steps table action Fulfilled Fulfilled false
-steps-fulfilled-before table action = record { goes = refl; reports = refl }
+pub steps-enforced : (row entry : ℕ) → StepsBy (Enforced row) entry (Enforced entry) (eqb entry 255) false
+steps-enforced row entry =
+    record { steps = λ table action f. record { goes = ap Enforced f; denied = ap (λ (x : ℕ). eqb x 255) f; reported = refl } }
 
-module _ (table : List ℕ) (action row e : ℕ) (read : e ≡ entryAt table row action) where
-  pub denies-enforced : eqb e 255 ≡ denies table action (Enforced row)
-  denies-enforced = ap (λ (x : ℕ). eqb x 255) read
-
-  pub steps-enforced : Steps table action (Enforced row) (Enforced e) false
-  steps-enforced = record { goes = ap Enforced read; reports = refl }
-
-  pub steps-fulfilled : e ≡ 255 → Steps table action (Watched row) Fulfilled true
-  steps-fulfilled h =
-      let t : eqb (entryAt table row action) 255 ≡ true = eq-eqb _ _ (sym read ∙ h) in
-      record { goes = ap (λ (b : Bool). cond b Fulfilled (Watched (entryAt table row action))) (sym t); reports = sym t }
-
-  pub steps-watched : (e ≡ 255 → ⊥) → Steps table action (Watched row) (Watched e) false
-  steps-watched h =
-      let t : eqb (entryAt table row action) 255 ≡ false = ne-eqb _ _ (λ q. h (read ∙ q)) in
-      record { goes = ap Watched read ∙ ap (λ (b : Bool). cond b Fulfilled (Watched (entryAt table row action))) (sym t); reports = sym t }
+pub steps-watched : (row entry : ℕ) → StepsBy (Watched row) entry (watchedMove entry) false (eqb entry 255)
+steps-watched row entry =
+    record { steps = λ table action f. record { goes = ap watchedMove f; denied = refl; reported = ap (λ (x : ℕ). eqb x 255) f } }

@@ -1,10 +1,10 @@
 -- Parts of a list written one after the other: bytes to the front of a place and zeros behind them.
 -- Assumes nothing.
 use mathlib.Core.Path.{_≡_, refl, sym, _∙_, ap}
-use mathlib.Core.List.{List, _++_, append-nil, append-assoc}
+use mathlib.Core.List.{List, _++_, append-assoc}
 use Prim.Native.Nat.{ℕ, _+_, _-_, _≤_}
 use native.Mathlib.Omega.{arith}
-use lib.ListN.{length, take, drop, replicate, length-append, length-drop, length-replicate}
+use lib.ListN.{length, take, drop, replicate, length-append, length-drop}
 use lib.Seq.{length-take-le, take-at, drop-at, drop-drop}
 use borrow.Rule.Slice.PartMut.{midOf, putMid, post-is, mid-len}
 use Rattle.base.proofs.Lists.{stored-all}
@@ -65,22 +65,6 @@ written-part a w l bytes x y fits few copied cleared =
 abbrev pub zeros : ℕ → List ℕ
 zeros n = replicate n 0
 
-length-zeros : (n : ℕ) → length (zeros n) ≡ n
-length-zeros n = length-replicate n 0
-
 -- the front of a list, with zeros
 pub cleared-front : (n : ℕ) (l y : List ℕ) → n ≤ length l → y ≡ zeros (length (take n l)) → y ≡ zeros n
 cleared-front n l y fits cleared = cleared ∙ ap zeros (length-take-le n l fits)
-
--- a part from a on, with zeros
-pub cleared-part : (a w : ℕ) (l y : List ℕ) → a + w ≤ length l → y ≡ zeros (length (midOf a (a + w - a) l))
-    → putMid a (a + w - a) l y ≡ take a l ++ ((zeros w ++ zeros (w - length (zeros w))) ++ drop (a + w) l)
-cleared-part a w l y fits cleared =
-    put-part a (a + w) l y (omega arith)
-    ∙ ap (λ (z : List ℕ). take a l ++ (z ++ drop (a + w) l)) (cleared ∙ all ∙ sym none)
-  where
-    all : zeros (length (midOf a (a + w - a) l)) ≡ zeros w
-    all = let e : length (midOf a (a + w - a) l) ≡ w = omega (arith, mid-len a (a + w) l fits) in ap zeros e
-
-    none : zeros w ++ zeros (w - length (zeros w)) ≡ zeros w
-    none = let e : w - length (zeros w) ≡ 0 = omega (arith, length-zeros w) in ap (λ (n : ℕ). zeros w ++ zeros n) e ∙ append-nil (zeros w)

@@ -1,8 +1,9 @@
+pub mod Layout
 pub mod Places
+pub mod View
 pub mod Possible
 pub mod Calls
-pub mod History
 pub mod Replies
 pub mod Survey
-pub mod Steps
 pub mod Targets
+pub mod Steps

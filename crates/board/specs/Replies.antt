@@ -1,4 +1,4 @@
--- The answers of the board's four calls in document 01's numbers and values, one line a case.
+-- The answers of the board's four calls in the numbers and values of docs/FORMATS.md, "Refusals", one line a case.
 -- Assumes nothing.
 use Rattle.board.specs.Calls.{Reply, done, permitted, denied, input, state}
 use Rattle.board.specs.declared.Made.{Made}

@@ -1,51 +1,46 @@
--- What the functions that carry out an action are handed, and what they give.
+-- What the pass over the places gives under an action.
 -- Assumes nothing.
 use mathlib.Core.Path.{_≡_}
-use mathlib.Core.Bool.{Bool, true}
+use mathlib.Core.Bool.{Bool}
 use mathlib.Core.List.{List}
-use Prim.Native.Nat.{ℕ, _<_}
-use Rattle.table.specs.Table.{rowsOf, actionsOf, WellFormed}
-use Rattle.board.specs.Places.{caseAt, taken, tableAt}
-use Rattle.board.specs.Possible.{CaseFits}
-use Rattle.board.specs.Calls.{Whole, denies, moved, fulfils, NoneDenies}
-use Rattle.board.specs.Survey.{Within, Over}
+use Prim.Native.Nat.{ℕ, _<_, _/_, _%_, _^_}
+use Rattle.board.specs.Places.{boardBy}
+use Rattle.board.specs.View.{View}
+use Rattle.board.specs.Calls.{denies, moved, fulfils, deniesAt, movedAt, fulfilsAt, setBelow}
+use Rattle.board.specs.Survey.{Follows, Surveys}
 use Rattle.board.specs.declared.Case.{Case}
 use Rattle.board.specs.declared.Board.{Board}
-use Rattle.board.specs.declared.actions.Denier.{Denier}
-use Rattle.board.specs.declared.actions.Denier.the-variants.{At, Nobody}
+use Rattle.board.specs.declared.survey.Found.{Found}
+use Rattle.board.specs.declared.survey.Found.the-variants as found
 
--- An entry that can be read: a table that passes 10, a row and an action of it.
-pub record Readable (area : List ℕ) (place row actions action : ℕ) : Type 0 where
-  pub within : Within area place
-  pub formed : WellFormed (tableAt area place)
-  pub acting : actionsOf (tableAt area place) ≡ actions
-  pub row-below : row < rowsOf (tableAt area place)
-  pub listed : action < actions
-
--- A place that an action can be read at.
-pub record Ready (area : List ℕ) (place : ℕ) (case : Case) (actions action : ℕ) : Type 0 where
-  pub within : Within area place
-  pub fits : CaseFits (tableAt area place) case
-  pub acting : taken case ≡ true → actionsOf (tableAt area place) ≡ actions
-  pub listed : action < actions
-
--- A board that an action of its list can be read at.
-pub record Playable (board : Board) (area : List ℕ) (actions action : ℕ) : Type 0 where
-  pub whole : Whole area
-  pub over : Over board area actions
-  pub listed : action < actions
-
--- The next case of a rule, and whether the action fulfils it.
-pub record Steps (table : List ℕ) (action : ℕ) (case next : Case) (fulfilled : Bool) : Type 0 where
+-- A rule under an action: its next case, and whether it trips as an enforced or as a watched rule.
+pub record Steps (table : List ℕ) (action : ℕ) (case next : Case) (denying fulfilling : Bool) : Type 0 where
   pub goes : next ≡ moved table action case
-  pub reports : fulfilled ≡ fulfils table action case
+  pub denied : denying ≡ denies table action case
+  pub reported : fulfilling ≡ fulfils table action case
 
--- The lowest place that denies.
-pub record LowestDenier (board : Board) (area : List ℕ) (action place : ℕ) : Type 0 where
-  pub below : place < 8
-  pub denying : denies (tableAt area place) action (caseAt board place) ≡ true
-  pub lowest : NoneDenies board area action place
+-- The same by the entry in its row, whatever the table.
+pub record StepsBy (case : Case) (entry : ℕ) (next : Case) (denying fulfilling : Bool) : Type 0 where
+  pub steps : (table : List ℕ) (action : ℕ) → Follows table action case entry → Steps table action case next denying fulfilling
 
-abbrev pub Denies : Board → List ℕ → ℕ → Denier → Type 0
-Denies board area action (At place) = LowestDenier board area action place
-Denies board area action Nobody = NoneDenies board area action 8
+-- The places below n under an action: their next cases, and the sets of those that deny it and that it fulfils.
+pub record Sweeps (n : ℕ) (view : View) (action : ℕ) (next : Board) (denying fulfilled : ℕ) : Type 0 where
+  pub goes : next ≡ boardBy n (movedAt view action)
+  pub denied : denying ≡ setBelow (deniesAt view action) n
+  pub reported : fulfilled ≡ setBelow (fulfilsAt view action) n
+
+-- The board can be, and the action is in the list of its rules.
+abbrev pub Playable : Found → ℕ → Type 0
+Playable found.Impossible action = ⊥
+Playable found.Vacant action = Unit {0}
+Playable (found.Actions actions) action = action < actions
+
+-- The pass over the places below n.
+pub record Scans (n : ℕ) (view : View) (action : ℕ) (f : Found) (next : Board) (denying fulfilled : ℕ) : Type 0 where
+  pub surveys : Surveys n view f
+  pub sweeps : Playable f action → Sweeps n view action next denying fulfilled
+
+-- The lowest member of a set, as bits of a number.
+pub record LowestIn (set place : ℕ) : Type 0 where
+  pub member : set / 2 ^ place % 2 ≡ 1
+  pub lowest : (i : ℕ) → i < place → set / 2 ^ i % 2 ≡ 0

@@ -6,20 +6,16 @@ use mathlib.Core.List.{List}
 use Prim.Native.Nat.{ℕ, _<_}
 use lib.Dec.{eqb}
 use Rattle.table.specs.Table.{rowsOf, actionsOf}
-use Rattle.board.specs.Places.{caseAt, taken}
+use Rattle.board.specs.Places.{taken}
+use Rattle.board.specs.View.{View}
 use Rattle.board.specs.Possible.{TableOfType, CaseFits, Possible}
-use Rattle.board.specs.Calls.{Whole, SameActions, Vacant}
+use Rattle.board.specs.Calls.{SameActions, Vacant, entryAt}
 use Rattle.board.specs.declared.Case.{Case}
-use Rattle.board.specs.declared.Board.{Board}
+use Rattle.board.specs.declared.Case.the-variants.{Empty, Enforced, Watched, Fulfilled}
 use Rattle.board.specs.declared.survey.Seen.{Seen}
 use Rattle.board.specs.declared.survey.Seen.the-variants as seen
 use Rattle.board.specs.declared.survey.Found.{Found}
 use Rattle.board.specs.declared.survey.Found.the-variants as found
-
--- A place in an area that is long enough.
-pub record Within (area : List ℕ) (place : ℕ) : Type 0 where
-  pub whole : Whole area
-  pub below : place < 8
 
 -- A taken place whose table fits its case, and the table's count of actions.
 pub record FitsWith (table : List ℕ) (case : Case) (actions : ℕ) : Type 0 where
@@ -43,19 +39,41 @@ Sees table case seen.Untaken = taken case ≡ false
 Sees table case (seen.Fits actions) = FitsWith table case actions
 Sees table case seen.Misfit = CaseFits table case → ⊥
 
+-- The entry of an action in a rule's row, which moves it; an empty place and a fulfilled rule need none.
+abbrev pub Follows : List ℕ → ℕ → Case → ℕ → Type 0
+Follows table action Empty entry = Unit {0}
+Follows table action (Enforced row) entry = entry ≡ entryAt table row action
+Follows table action (Watched row) entry = entry ≡ entryAt table row action
+Follows table action Fulfilled entry = Unit {0}
+
+-- The action is in the list of what was seen.
+abbrev pub ListedIn : Seen → ℕ → Type 0
+ListedIn seen.Untaken action = Unit {0}
+ListedIn (seen.Fits actions) action = action < actions
+ListedIn seen.Misfit action = ⊥
+
+-- A rule, and a place, read for an action.
+pub record ReadsRule (table : List ℕ) (type row action : ℕ) (s : Seen) (entry : ℕ) : Type 0 where
+  pub sees : SeesRule table type row s
+  pub enters : ListedIn s action → entry ≡ entryAt table row action
+
+pub record ReadsPlace (table : List ℕ) (case : Case) (action : ℕ) (s : Seen) (entry : ℕ) : Type 0 where
+  pub sees : Sees table case s
+  pub follows : ListedIn s action → Follows table action case entry
+
 -- A board that can be, with a rule on, and every rule over so many actions.
-pub record Over (board : Board) (area : List ℕ) (actions : ℕ) : Type 0 where
-  pub possible : Possible board area
-  pub same : SameActions board area actions
+pub record Over (places : ℕ) (view : View) (actions : ℕ) : Type 0 where
+  pub possible : Possible places view
+  pub same : SameActions places view actions
   pub place : ℕ
-  pub below : place < 8
-  pub on : taken (caseAt board place) ≡ true
+  pub below : place < places
+  pub on : taken (view .case place) ≡ true
 
 -- All places: the board cannot be, or no rule is on, or so many actions.
-abbrev pub Surveys : Board → List ℕ → Found → Type 0
-Surveys board area found.Impossible = Possible board area → ⊥
-Surveys board area found.Vacant = Possible board area × Vacant board
-Surveys board area (found.Actions actions) = Over board area actions
+abbrev pub Surveys : ℕ → View → Found → Type 0
+Surveys places view found.Impossible = Possible places view → ⊥
+Surveys places view found.Vacant = Possible places view × Vacant places view
+Surveys places view (found.Actions actions) = Over places view actions
 
 -- What is known of the places below some number, with one place more.
 abbrev pub joined : Found → Seen → Found

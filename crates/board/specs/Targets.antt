@@ -1,13 +1,14 @@
--- What a call that names a place finds there, in document 01's order: 14, 13, 25, and then whether the place is taken.
+-- What a call that names a place finds there, in the order of docs/FORMATS.md: 14, 13, 25, and then whether the place is taken.
 -- Assumes nothing.
 use mathlib.Core.Path.{_≡_}
 use mathlib.Core.Bool.{true, false}
 use mathlib.Core.List.{List}
 use Prim.Native.Nat.{ℕ, _≤_}
+use Rattle.board.specs.Layout.{placeCount, Whole, Within}
 use Rattle.board.specs.Places.{caseAt, taken}
+use Rattle.board.specs.View.{viewOf}
 use Rattle.board.specs.Possible.{Possible}
-use Rattle.board.specs.Calls.{Whole}
-use Rattle.board.specs.Survey.{Within, Surveys}
+use Rattle.board.specs.Survey.{Surveys}
 use Rattle.board.specs.declared.Board.{Board}
 use Rattle.board.specs.declared.survey.Found.{Found}
 use Rattle.board.specs.declared.calls.Target.{Target}
@@ -15,18 +16,18 @@ use Rattle.board.specs.declared.calls.Target.the-variants.{ShortArea, No
 
 pub record TakenTarget (board : Board) (area : List ℕ) (place : ℕ) : Type 0 where
   pub within : Within area place
-  pub possible : Possible board area
+  pub possible : Possible placeCount (viewOf board area)
   pub on : taken (caseAt board place) ≡ true
 
 pub record EmptyTarget (board : Board) (area : List ℕ) (place : ℕ) (found : Found) : Type 0 where
   pub within : Within area place
-  pub possible : Possible board area
+  pub possible : Possible placeCount (viewOf board area)
   pub free : taken (caseAt board place) ≡ false
-  pub surveyed : Surveys board area found
+  pub surveyed : Surveys placeCount (viewOf board area) found
 
 abbrev pub Looks : Board → List ℕ → ℕ → Target → Type 0
 Looks board area place ShortArea = Whole area → ⊥
-Looks board area place NoPlace = Whole area × (8 ≤ place)
-Looks board area place Impossible = Within area place × (Possible board area → ⊥)
+Looks board area place NoPlace = Whole area × (placeCount ≤ place)
+Looks board area place Impossible = Within area place × (Possible placeCount (viewOf board area) → ⊥)
 Looks board area place Taken = TakenTarget board area place
 Looks board area place (Empty found) = EmptyTarget board area place found

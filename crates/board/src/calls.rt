@@ -1,22 +1,23 @@
 // A new board, putting a table on it, and taking one off.
+use crate::AREA_LENGTH;
 use crate::Board;
 use crate::Case;
 use crate::Made;
 use crate::NewBoard;
+use crate::PLACES;
 use crate::Put;
 use crate::PutOn;
 use crate::Take;
 use crate::TakenOff;
 use crate::places::case_at;
-use crate::places::clear_place;
 use crate::places::empty_board;
 use crate::places::taken;
 use crate::places::with_case;
 use crate::places::write_place;
+use crate::scan::scan;
 use crate::survey::Found;
 use crate::survey::admits;
 use crate::survey::impossible;
-use crate::survey::survey;
 use table::Loaded;
 use trace::Mode;
 ghost use mathlib.Core.Path.{_≡_};
@@ -34,18 +35,18 @@ pub enum Target {
     Empty(Found),
 }
 
-// Eight empty places and a zeroed area.
+// An empty board and a zeroed area.
 pub fn new_board(area: &mut [u8]) -> NewBoard
     ensures { λ r. ⌜ Makes (now (area .entry)) (madeReply (r .answer)) (r .board) (now (area .exit)) ⌝ }
 {
     let board = empty_board();
-    if area.len() < 8256 {
+    if area.len() < AREA_LENGTH {
         return NewBoard {
             answer: Made::ShortArea,
             board,
         };
     }
-    base::clear(&mut area[..8256]);
+    base::clear(&mut area[..AREA_LENGTH]);
     NewBoard {
         answer: Made::Board,
         board,
@@ -56,23 +57,23 @@ pub fn new_board(area: &mut [u8]) -> NewBoard
 fn look_at(board: Board, area: &[u8], place: usize) -> Target
     ensures { λ r. ⌜ Looks board (now (area .entry)) place r ⌝ }
 {
-    if area.len() < 8256 {
+    if area.len() < AREA_LENGTH {
         return Target::ShortArea;
     }
-    if 8 <= place {
+    if PLACES <= place {
         return Target::NoPlace;
     }
-    let found = survey(board, area);
+    let scanned = scan(board, area, 0);
+    let found = scanned.found;
     let cannot_be = impossible(found);
     let on = taken(case_at(board, place));
     if cannot_be {
         return Target::Impossible;
     }
     if on {
-        Target::Taken
-    } else {
-        Target::Empty(found)
+        return Target::Taken;
     }
+    Target::Empty(found)
 }
 
 // The case that a table starts in, by its type.
@@ -168,7 +169,7 @@ pub fn take_off(board: Board, area: &mut [u8], place: usize) -> TakenOff
             board,
         },
         Target::Taken => {
-            clear_place(area, place);
+            write_place(area, place, &[]);
             let next = with_case(board, place, Case::Empty);
             TakenOff {
                 answer: Take::Off,

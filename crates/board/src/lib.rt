@@ -3,12 +3,20 @@
 mod actions;
 mod calls;
 mod places;
+mod scan;
 mod survey;
 
 pub use actions::action;
 pub use calls::new_board;
 pub use calls::put_on;
 pub use calls::take_off;
+
+// How many places a board has, how long the part of a place in the area is, and so the area.
+pub const PLACES: usize = 8;
+
+pub const PLACE_LENGTH: usize = 1032;
+
+pub const AREA_LENGTH: usize = PLACES * PLACE_LENGTH;
 
 // A place is empty, or holds an enforced rule and its row, or a watched rule and its row, or a watched rule fulfilled.
 pub enum Case {
@@ -23,10 +31,10 @@ pub struct Place {
 }
 
 pub struct Board {
-    pub places: [Place; 8],
+    pub places: [Place; PLACES],
 }
 
-// What each call answers. specs/Replies.antt gives document 01's number and values for each case.
+// What each call answers. specs/Replies.antt gives the number and values of docs/FORMATS.md, "Refusals", for each case.
 pub enum Made {
     Board,
     ShortArea,

@@ -1,15 +1,12 @@
-// Check 25: whether the board can be, and over how many actions its rules are.
-use crate::Board;
+// Check 25: whether a place can be, what is known of several, and over how many actions their rules are.
 use crate::Case;
-use crate::places::case_at;
 use crate::places::place_bytes;
 use base::byte;
 use table::Header;
 ghost use mathlib.Core.Path.{_≡_};
-ghost use Rattle.table.specs.Answer.{Checked};
-ghost use Rattle.board.specs.Places.{tableAt};
-ghost use Rattle.board.specs.Calls.{Whole};
-ghost use Rattle.board.specs.Survey.{Within, Sees, SeesRule, Surveys, joined, isImpossible, admitted};
+ghost use Rattle.board.specs.Layout.{Within, storedAt};
+ghost use Rattle.board.specs.View.{held};
+ghost use Rattle.board.specs.Survey.{ReadsRule, ReadsPlace, joined, isImpossible, admitted};
 
 // A place: not taken, or its table fits its case and has so many actions, or it cannot be.
 pub enum Seen {
@@ -25,62 +22,73 @@ pub enum Found {
     Actions(usize),
 }
 
-// Check 10 on the table at a place, read to the length that its header gives.
-fn check_at(area: &[u8], place: usize) -> Header
-    requires { ⌜ Within (now area) place ⌝ }
-    ensures { λ r. ⌜ Checked (tableAt (now (area .entry)) place) r ⌝ }
-{
-    let bytes = place_bytes(area, place);
-    let Header::Fields {
-        mode: _,
-        actions,
-        rows,
-    } = table::header_of(bytes)
-    else {
-        return Header::BadHeader;
-    };
-    let size = 8 + rows * actions;
-    table::check(&bytes[..size])
+// What is read at a place: what check 25 finds there, and the entry of an action in the rule's row, where it is in the list.
+pub struct PlaceRead {
+    pub seen: Seen,
+    pub entry: u8,
 }
 
-// A rule of a type at a row.
-fn rule_at(area: &[u8], place: usize, kind: u8, row: u8) -> Seen
+// A rule of a type at a row, read for an action.
+fn rule_at(area: &[u8], place: usize, kind: u8, row: u8, action: usize) -> PlaceRead
     requires { ⌜ Within (now area) place ⌝ }
-    ensures { λ r. ⌜ SeesRule (tableAt (now (area .entry)) place) kind row r ⌝ }
+    ensures { λ r. ⌜ ReadsRule (storedAt (now (area .entry)) place) kind row action (r .seen) (r .entry) ⌝ }
 {
+    let bytes = place_bytes(area, place);
     let Header::Fields {
         mode,
         actions,
         rows,
-    } = check_at(area, place)
+    } = table::check_front(bytes)
     else {
-        return Seen::Misfit;
+        return PlaceRead {
+            seen: Seen::Misfit,
+            entry: 0,
+        };
     };
     if table::mode_number(mode) != kind {
-        return Seen::Misfit;
+        return PlaceRead {
+            seen: Seen::Misfit,
+            entry: 0,
+        };
     }
-    if byte(row) < rows {
-        Seen::Fits(actions)
-    } else {
-        Seen::Misfit
+    let at_row = byte(row);
+    if rows <= at_row {
+        return PlaceRead {
+            seen: Seen::Misfit,
+            entry: 0,
+        };
+    }
+    if actions <= action {
+        return PlaceRead {
+            seen: Seen::Fits(actions),
+            entry: 0,
+        };
+    }
+    let at = 8 + at_row * actions + action;
+    PlaceRead {
+        seen: Seen::Fits(actions),
+        entry: bytes[at],
     }
 }
 
 // One place. The bytes of an empty place are not read; a fulfilled rule is a watched one at any row.
-fn see(case: Case, area: &[u8], place: usize) -> Seen
+pub fn see(case: Case, area: &[u8], place: usize, action: usize) -> PlaceRead
     requires { ⌜ Within (now area) place ⌝ }
-    ensures { λ r. ⌜ Sees (tableAt (now (area .entry)) place) case r ⌝ }
+    ensures { λ r. ⌜ ReadsPlace (held case (storedAt (now (area .entry)) place)) case action (r .seen) (r .entry) ⌝ }
 {
     match case {
-        Case::Empty => Seen::Untaken,
-        Case::Enforced(row) => rule_at(area, place, 1, row),
-        Case::Watched(row) => rule_at(area, place, 2, row),
-        Case::Fulfilled => rule_at(area, place, 2, 0),
+        Case::Empty => PlaceRead {
+            seen: Seen::Untaken,
+            entry: 0,
+        },
+        Case::Enforced(row) => rule_at(area, place, 1, row, action),
+        Case::Watched(row) => rule_at(area, place, 2, row, action),
+        Case::Fulfilled => rule_at(area, place, 2, 0, action),
     }
 }
 
 // What is known with one place more.
-fn join(found: Found, seen: Seen) -> Found
+pub fn join(found: Found, seen: Seen) -> Found
     ensures { λ r. ⌜ r ≡ joined found seen ⌝ }
 {
     match found {
@@ -102,21 +110,6 @@ fn join(found: Found, seen: Seen) -> Found
             Seen::Misfit => Found::Impossible,
         },
     }
-}
-
-// All places, from the lowest.
-pub fn survey(board: Board, area: &[u8]) -> Found
-    requires { ⌜ Whole (now area) ⌝ }
-    ensures { λ r. ⌜ Surveys board (now (area .entry)) r ⌝ }
-{
-    let mut found = Found::Vacant;
-    let mut i = 0;
-    while i < 8 {
-        let case = case_at(board, i);
-        found = join(found, see(case, area, i));
-        i += 1;
-    }
-    found
 }
 
 pub fn impossible(found: Found) -> bool

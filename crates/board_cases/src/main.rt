@@ -11,13 +11,6 @@ fn room_for_counts() -> [u64; 257]
     [0u64; 257]
 }
 
-// Room for the name of a record, or an answer.
-fn room_for_name() -> [u8; 64]
-    ensures { λ r. ⌜ 64 ≡ length r ⌝ }
-{
-    [0u8; 64]
-}
-
 // Room for a call, with the largest table and more.
 fn room_for_call() -> [u8; 1100]
     ensures { λ r. ⌜ 1100 ≡ length r ⌝ }
@@ -39,7 +32,7 @@ fn room_for_area() -> [u8; 8256]
 }
 
 // A byte written by hand, as no call does. Answers 0, or 99 where it lies outside.
-fn write_byte(bytes: &mut [u8], at: usize, byte: u8) -> u32 {
+fn write_byte(bytes: &mut [u8], at: usize, byte: u8) -> u64 {
     if bytes.len() <= at {
         return 99;
     }
@@ -48,7 +41,7 @@ fn write_byte(bytes: &mut [u8], at: usize, byte: u8) -> u32 {
 }
 
 // Makes a call of a kind: its number is a place, an action or an offset, and behind it stands a table or a byte. No kind answers 99.
-fn make(kind: usize, number: usize, rest: &[u8], board: &mut [u8], area: &mut [u8]) -> u32 {
+fn make(kind: usize, number: usize, rest: &[u8], board: &mut [u8], area: &mut [u8]) -> u64 {
     match kind {
         0 => lemondarts::lemondarts_new_board(board, area),
         1 => lemondarts::lemondarts_put_on(board, area, number, rest),
@@ -61,7 +54,7 @@ fn make(kind: usize, number: usize, rest: &[u8], board: &mut [u8], area: &mut [u
 }
 
 // Makes the call that a block states: its kind, whether the area is lent a byte too short, its number, and the rest.
-fn call(bytes: &[u8], board: &mut [u8], area: &mut [u8]) -> u32 {
+fn call(bytes: &[u8], board: &mut [u8], area: &mut [u8]) -> u64 {
     if bytes.len() < 4 {
         return 99;
     }
@@ -77,83 +70,59 @@ fn call(bytes: &[u8], board: &mut [u8], area: &mut [u8]) -> u32 {
 }
 
 // Whether an answer and the board behind it are those expected.
-fn as_expected(answer: u32, board: &[u8], expected: &[u8]) -> bool {
+fn as_expected(answer: u64, board: &[u8], expected: &[u8]) -> bool {
     if expected.len() < 4 {
         return false;
     }
     (answer as usize == corpus::answer_at(expected)) & check::same(board, &expected[4..])
 }
 
-// Whether a record was all there, and whether all is as expected.
-struct Ran {
-    whole: bool,
-    agreed: bool,
-}
-
 // Reads the rest of a record of the corpus, behind its name, makes the call and compares.
-fn run_call(board: &mut [u8], area: &mut [u8], counts: &mut [u64]) -> Ran {
+fn run_call(board: &mut [u8], area: &mut [u8], counts: &mut [u64]) -> corpus::Ran {
     let mut stated = room_for_call();
-    let mut expected = room_for_name();
+    let mut expected = corpus::room_for_name();
     let given = corpus::read_block(&mut stated);
     let answered = corpus::read_block(&mut expected);
     let g = given.number;
     let e = answered.number;
     if given.whole & answered.whole {
         let answer = call(&stated[0..g], board, area);
-        corpus::add(counts, (answer % 256) as usize, 1);
-        return Ran {
+        corpus::add(counts, (answer % 65536) as usize, 1);
+        return corpus::Ran {
             whole: true,
             agreed: as_expected(answer, board, &expected[0..e]),
         };
     }
-    Ran {
-        whole: false,
-        agreed: true,
-    }
+    corpus::cut_off()
 }
 
 // Reads a record of the corpus, makes the call and compares. Answers whether all of it was there.
 fn run_record(board: &mut [u8], area: &mut [u8], counts: &mut [u64]) -> bool {
-    let mut name = room_for_name();
+    let mut name = corpus::room_for_name();
     let named = corpus::read_block(&mut name);
     let n = named.number;
     let ran = run_call(board, area, counts);
-    corpus::add(counts, DISAGREEMENTS, corpus::note(ran.agreed, &name[0..n]));
-    named.whole & ran.whole
+    corpus::settle(counts, DISAGREEMENTS, named.whole, ran, &name[0..n])
 }
 
-// Runs the records, and answers how many there were.
-fn run(records: usize, counts: &mut [u64]) -> usize {
+// Runs the records.
+fn run(counts: &mut [u64]) -> corpus::Progress {
     let mut board = room_for_board();
     let mut area = room_for_area();
-    let mut i = 0;
-    while i < records {
-        if run_record(&mut board, &mut area, counts) {
-            i += 1;
-        } else {
-            return i;
-        }
+    let mut at = corpus::begin();
+    while 0 < at.left {
+        at = corpus::behind(at, run_record(&mut board, &mut area, counts));
     }
-    i
+    at
 }
 
-// Writes a word and a count.
-fn show_count(word: &[u8], count: u64) {
-    io::write_all(1, word);
-    io::print_decimal(1, count);
-}
-
-// A corpus that is cut off, that has a block longer than its room, or that goes on behind its last record is reported.
 fn main() {
     let mut counts = room_for_counts();
-    let records = corpus::read_number();
-    let done = run(records.number, &mut counts);
-    show_count(b"calls ", done as u64);
+    let at = run(&mut counts);
+    corpus::show_count(b"calls ", at.done as u64);
     io::write_all(1, b"\nanswers");
     corpus::show(&counts[0..256]);
-    show_count(b"\ndisagreements ", counts[256]);
+    corpus::show_count(b"\ndisagreements ", counts[256]);
     io::write_all(1, b"\n");
-    if !(records.whole & (done == records.number) & (corpus::bytes_left() == 0)) {
-        io::write_all(1, b"the corpus is damaged behind these\n");
-    }
+    corpus::end(at);
 }

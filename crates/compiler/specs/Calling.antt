@@ -1,4 +1,4 @@
--- The public call: its answer in document 01's numbers, and every byte of the lent areas.
+-- The public call: its answer in the numbers of docs/FORMATS.md, "Refusals", and every byte of the lent areas.
 -- Assumes nothing.
 use mathlib.Core.Path.{_≡_}
 use mathlib.Core.List.{List, _++_}

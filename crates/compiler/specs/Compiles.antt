@@ -1,4 +1,4 @@
--- What compiling a sheet gives: one way out a line, in document 01's order.
+-- What compiling a sheet gives: one way out a line, in the order of docs/FORMATS.md, "The order of checks".
 -- Assumes nothing.
 use mathlib.Core.Path.{_≡_}
 use mathlib.Core.List.{List, [], _∷_}

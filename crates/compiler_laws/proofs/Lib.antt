@@ -4,5 +4,6 @@ pub mod CompiledTable
 pub mod SharedRows
 pub mod Demands
 pub mod Spots
+pub mod TooLong
 pub mod Calls
 pub mod Unread

@@ -1,14 +1,29 @@
-// The corpus that the case programs read from standard input, and the counts that they print. A corpus is the number of its records and then
+// The corpus that the case programs read from standard input, how far they are with it, and the counts that they print. A corpus is the number of its records and then
 // their blocks. A number has 16 bits, low byte first; a block is a number and as many bytes. reference/README.md says which blocks a record has.
 ghost use mathlib.Core.Path.{_≡_};
+ghost use mathlib.Core.Bool.{true, false, cond, _&&_};
 ghost use Prim.Native.Nat.{_+_, _*_, _<_, _≤_, _%_, _^_};
 ghost use lib.ListN.{length, getD, set};
 ghost use Rattle.io.specs.Counts.{Counts};
+ghost use Rattle.corpus.specs.Progress.{Behind};
 
 // A number, or the length of a block: and whether all of its bytes were there.
 pub struct Read {
     pub whole: bool,
     pub number: usize,
+}
+
+// Whether a record was all there, and whether all on it is as expected.
+pub struct Ran {
+    pub whole: bool,
+    pub agreed: bool,
+}
+
+// How far a corpus has been run: the records left and those done, and whether all that was to be there was.
+pub struct Progress {
+    pub left: usize,
+    pub done: usize,
+    pub whole: bool,
 }
 
 // A byte as a number.
@@ -32,11 +47,12 @@ pub fn at(bytes: &[u8], i: usize) -> usize
     wide(byte_at(bytes, i))
 }
 
-// An answer of the calls for C, which is a number of 32 bits, low byte first.
+// An answer of the calls for C: four fields of 16 bits, lowest first. The corpus has a byte for each.
 pub fn answer_at(bytes: &[u8]) -> usize
-    ensures { λ r. ⌜ r ≡ getD (now (bytes .entry)) 0 0 + 256 * getD (now (bytes .entry)) 1 0 + 65536 * getD (now (bytes .entry)) 2 0 + 16777216 * getD (now (bytes .entry)) 3 0 ⌝ }
+    ensures { λ r. ⌜ r ≡ getD (now (bytes .entry)) 0 0 + 65536 * getD (now (bytes .entry)) 1 0 + 4294967296 * getD (now (bytes .entry)) 2 0 + 281474976710656 * getD (now (bytes .entry)) 3 0 ⌝ }
 {
-    at(bytes, 0) + 256 * at(bytes, 1) + 65536 * at(bytes, 2) + 16777216 * at(bytes, 3)
+    let low = at(bytes, 0) + 65536 * at(bytes, 1);
+    low + 4294967296 * at(bytes, 2) + 281474976710656 * at(bytes, 3)
 }
 
 fn room_for_number() -> [u8; 2]
@@ -77,11 +93,59 @@ pub fn read_block(room: &mut [u8]) -> Read
 }
 
 // How many bytes are left to read, two for more.
-pub fn bytes_left() -> usize
+fn bytes_left() -> usize
     ensures { λ r. ⌜ r ≤ 2 ⌝ }
 {
     let mut bytes = room_for_number();
     io::read_full(0, &mut bytes)
+}
+
+// Before the first record.
+pub fn begin() -> Progress
+    ensures { λ r. ⌜ (r .done ≡ 0) × (r .left < 65536) ⌝ }
+{
+    let records = read_number();
+    Progress {
+        left: records.number,
+        done: 0,
+        whole: records.whole,
+    }
+}
+
+// Behind one record more. Where it was not all there none is left.
+pub fn behind(at: Progress, whole: bool) -> Progress
+    requires { ⌜ (0 < at .left) × (at .done + at .left < 65536) ⌝ }
+    ensures { λ r. ⌜ Behind (at .left) (at .done) whole (r .left) (r .done) ⌝ }
+{
+    if whole {
+        return Progress {
+            left: at.left - 1,
+            done: at.done + 1,
+            whole: at.whole,
+        };
+    }
+    Progress {
+        left: 0,
+        done: at.done,
+        whole: false,
+    }
+}
+
+// Room for the name of a record, an answer, or a byte that says which area is short.
+pub fn room_for_name() -> [u8; 64]
+    ensures { λ r. ⌜ 64 ≡ length r ⌝ }
+{
+    [0u8; 64]
+}
+
+// A record that was cut off. Nothing is known to disagree on it.
+pub fn cut_off() -> Ran
+    ensures { λ r. ⌜ (r .whole ≡ false) × (r .agreed ≡ true) ⌝ }
+{
+    Ran {
+        whole: false,
+        agreed: true,
+    }
 }
 
 // How much of an area is lent: all of it, or no more than this.
@@ -106,8 +170,8 @@ pub fn add(counts: &mut [u64], number: usize, more: u64)
 }
 
 // Writes the name of a record on which something disagrees, and answers how many do: 1, or 0 where all agree.
-pub fn note(agreed: bool, name: &[u8]) -> u64
-    ensures { λ r. ⌜ r ≤ 1 ⌝ }
+fn note(agreed: bool, name: &[u8]) -> u64
+    ensures { λ r. ⌜ r ≡ cond agreed 0 1 ⌝ }
 {
     if agreed {
         return 0;
@@ -115,6 +179,31 @@ pub fn note(agreed: bool, name: &[u8]) -> u64
     io::write_all(1, b"disagreement: ");
     io::write_all(1, name);
     io::write_all(1, b"\n");
+    1
+}
+
+// Counts a record on which something disagrees, at the slot, and writes its name. Answers whether the name and the rest were all there.
+pub fn settle(counts: &mut [u64], slot: usize, named: bool, ran: Ran, name: &[u8]) -> bool
+    ensures { λ r. ⌜ (r ≡ (named && ran .whole)) × (now (counts .exit) ≡ set (now (counts .entry)) slot ((getD (now (counts .entry)) slot 0 + cond (ran .agreed) 0 1) % 2 ^ 64)) ⌝ }
+{
+    add(counts, slot, note(ran.agreed, name));
+    named & ran.whole
+}
+
+// Writes a word and a count.
+pub fn show_count(word: &[u8], count: u64) {
+    io::write_all(1, word);
+    io::print_decimal(1, count);
+}
+
+// A corpus that was cut off, that had a block longer than its room, or that goes on behind its last record is reported. Answers how many are.
+pub fn end(at: Progress) -> usize
+    ensures { λ r. ⌜ r ≤ 1 ⌝ }
+{
+    if at.whole & (bytes_left() == 0) {
+        return 0;
+    }
+    io::write_all(1, b"the corpus is damaged behind these\n");
     1
 }
 

@@ -1,1 +1,4 @@
+pub mod History
+pub mod NoRefusal
+pub mod Unread
 pub mod Policies

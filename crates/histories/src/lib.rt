@@ -1,1 +1,1 @@
-// The board and the compiler together: what a board permits, said of the policies of its sheets.
+// Histories of a board: what it permits and reports over its calls, said of its tables and of the policies of their sheets.

@@ -1,53 +1,75 @@
 -- What a call leaves in the record, read back, is the board that the wrapped call left.
 -- Assumes nothing.
-use mathlib.Core.Path.{_≡_, refl}
-use mathlib.Core.List.{List, _++_}
+use mathlib.Core.Path.{_≡_, refl, sym, _∙_, ap, subst}
+use mathlib.Core.Bool.{Bool, true, false, cond}
+use mathlib.Core.List.{List}
 use Prim.Native.Nat.{ℕ}
-use lib.ListN.{length, drop}
+use lib.ListN.{length}
+use Rattle.board.specs.Layout.{placeCount}
 use Rattle.board.specs.Places.{emptyBoard}
-use Rattle.board.specs.Calls.{Reply, PutsOn, put-14, put-13, put-25, put-22, put-refused, put-23, put, firstCase}
-use Rattle.board.specs.Calls.{TakesOff, take-14, take-13, take-25, take-21, taken-off, Acts, act-14, act-25, act-24, act-12, act-denied, act-permitted}
+use Rattle.board.specs.View.{viewOf, Change, stays, sets, moves, boardAfter}
+use Rattle.board.specs.Calls.{Reply, input, Calls, short, called, PutsOn, Putting, put-13, put-25, put-22, put-refused, put-23, put}
+use Rattle.board.specs.Calls.{TakesOff, Taking, take-13, take-25, take-21, taken-off, Acts, Acting, act-25, act-24, act-12, act-denied, act-permitted}
 use Rattle.board.specs.declared.Board.{Board}
-use Rattle.board.specs.declared.Case.the-variants.{Empty}
-use Rattle.board.proofs.PlaceLaws.{length-with-case}
-use Rattle.lemondarts.specs.Record.{boardOf, recordOf}
+use Rattle.board.proofs.PlaceLaws.{length-with-case, length-board-by}
+use Rattle.lemondarts.specs.Record.{boardOf, written}
+use Rattle.lemondarts.specs.Numbers.{changes}
 use Rattle.lemondarts.specs.Exports.{recordAfter}
-use Rattle.lemondarts.proofs.ReadBack.{read-back}
+use Rattle.lemondarts.proofs.ReadBack.{eight-places, read-back}
 
-pub eight-places : (bytes : List ℕ) → length (boardOf bytes .places) ≡ 8
-unfolding boardOf
-eight-places bytes = refl
+pub made-kept : (bytes : List ℕ) → boardOf (written emptyBoard bytes) ≡ emptyBoard
+made-kept bytes = read-back emptyBoard bytes refl
 
-pub made-kept : (bytes : List ℕ) → boardOf (recordOf emptyBoard ++ drop 16 bytes) ≡ emptyBoard
-made-kept bytes = read-back (drop 16 bytes) emptyBoard refl
+-- An answer tells whether the call changes anything.
+abbrev alters : Change → Bool
+alters stays = false
+alters (sets place case table) = true
+alters (moves next) = true
 
-module _ (bytes : List ℕ) {area : List ℕ} where
-  pub put-kept : {place : ℕ} {table left : List ℕ} {reply : Reply} {next : Board} → PutsOn (boardOf bytes) area place table reply next left
+module _ (bytes : List ℕ) where
+  kept-by : (reply : Reply) (change : Change) → changes reply ≡ alters change → boardOf (recordAfter bytes reply (boardAfter change (boardOf bytes))) ≡ boardAfter change (boardOf bytes)
+  kept-by reply stays e = ap (λ (b : Bool). boardOf (cond b (written (boardOf bytes) bytes) bytes)) e
+  kept-by reply (sets place case table) e =
+      ap (λ (b : Bool). boardOf (cond b (written (boardAfter (sets place case table) (boardOf bytes)) bytes) bytes)) e
+      ∙ read-back (boardAfter (sets place case table) (boardOf bytes)) bytes (length-with-case (boardOf bytes) place case ∙ eight-places bytes)
+  kept-by reply (moves next) e =
+      ap (λ (b : Bool). boardOf (cond b (written (boardAfter (moves next) (boardOf bytes)) bytes) bytes)) e
+      ∙ read-back (boardAfter (moves next) (boardOf bytes)) bytes (length-board-by placeCount next)
+
+  kept : {call : Reply → Change → Type 0} → ((reply : Reply) (change : Change) → call reply change → changes reply ≡ alters change)
+      → {area left : List ℕ} {reply : Reply} {next : Board} → Calls call (boardOf bytes) area reply next left → boardOf (recordAfter bytes reply next) ≡ next
+  kept told (short w e f g) = rw (e, f) refl
+  kept told {reply = reply} (called w change p f g) = rw f (kept-by reply change (told reply change p))
+
+  pub put-kept : {area : List ℕ} {place : ℕ} {table left : List ℕ} {reply : Reply} {next : Board} → PutsOn (boardOf bytes) area place table reply next left
       → boardOf (recordAfter bytes reply next) ≡ next
-  put-kept (put-14 n) = refl
-  put-kept (put-13 w h) = refl
-  put-kept (put-25 w h n) = refl
-  put-kept (put-22 w h p t) = refl
-  put-kept (put-refused w h p t number l) = refl
-  put-kept (put-23 w h p t type actions rows l n) = refl
-  put-kept {place} (put w h p t type actions rows l same) =
-      read-back (drop 16 bytes) _ (length-with-case (boardOf bytes) place (firstCase type) (eight-places bytes))
+  put-kept {area} = kept (λ reply change p. told p)
+    where
+      told : {place : ℕ} {table : List ℕ} {reply : Reply} {change : Change} → Putting placeCount (viewOf (boardOf bytes) area) place table reply change → changes reply ≡ alters change
+      told (put-13 h) = refl
+      told (put-25 h n) = refl
+      told (put-22 h p t) = refl
+      told (put-refused h p t number l) = refl
+      told (put-23 h p t type actions rows l n) = refl
+      told (put h p t type actions rows l same) = refl
 
-  pub take-kept : {place : ℕ} {left : List ℕ} {reply : Reply} {next : Board} → TakesOff (boardOf bytes) area place reply next left
+  pub take-kept : {area : List ℕ} {place : ℕ} {left : List ℕ} {reply : Reply} {next : Board} → TakesOff (boardOf bytes) area place reply next left
       → boardOf (recordAfter bytes reply next) ≡ next
-  take-kept (take-14 n) = refl
-  take-kept (take-13 w h) = refl
-  take-kept (take-25 w h n) = refl
-  take-kept (take-21 w h p t) = refl
-  take-kept {place} (taken-off w h p t) =
-      read-back (drop 16 bytes) _ (length-with-case (boardOf bytes) place Empty (eight-places bytes))
+  take-kept {area} = kept (λ reply change p. told p)
+    where
+      told : {place : ℕ} {reply : Reply} {change : Change} → Taking placeCount (viewOf (boardOf bytes) area) place reply change → changes reply ≡ alters change
+      told (take-13 h) = refl
+      told (take-25 h n) = refl
+      told (take-21 h p t) = refl
+      told (taken-off h p t) = refl
 
-  pub act-kept : {action : ℕ} {reply : Reply} {next : Board} → Acts (boardOf bytes) area action reply next
+  pub act-kept : {area : List ℕ} {action : ℕ} {reply : Reply} {next : Board} → Acts (boardOf bytes) area action reply next
       → boardOf (recordAfter bytes reply next) ≡ next
-  act-kept (act-14 n) = refl
-  act-kept (act-25 w n) = refl
-  act-kept (act-24 w p v) = refl
-  act-kept (act-12 w p place h t l) = refl
-  act-kept (act-denied w p l place h e n) = refl
-  act-kept (act-permitted w p l n next m) =
-      read-back (drop 16 bytes) next (m .eight)
+  act-kept {area} = kept (λ reply change p. told p)
+    where
+      told : {action : ℕ} {reply : Reply} {change : Change} → Acting placeCount (viewOf (boardOf bytes) area) action reply change → changes reply ≡ alters change
+      told (act-25 n) = refl
+      told (act-24 p v) = refl
+      told (act-12 p place h t l) = refl
+      told (act-denied p l place h e n) = refl
+      told (act-permitted p l n) = refl

@@ -1,8 +1,10 @@
-pub mod Decoding
 pub mod Returning
 pub mod ReadBack
 pub mod Kept
+pub mod Fields
 pub mod Answers
 pub mod Sessions
 pub mod CompileNumbers
 pub mod Spots
+pub mod SessionLaws
+pub mod ReturnsDetermined

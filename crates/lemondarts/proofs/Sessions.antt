@@ -3,44 +3,41 @@
 -- Assumes nothing.
 use mathlib.Core.Path.{_≡_, refl, sym, _∙_, subst}
 use mathlib.Core.Bool.{Bool, true, false, cond}
-use mathlib.Core.List.{List, [], _∷_, _++_}
+use mathlib.Core.List.{List, [], _∷_}
 use Prim.Native.Nat.{ℕ, _≤_}
 use native.Mathlib.Omega.{arith}
-use lib.ListN.{length, drop, length-append, length-drop}
+use lib.ListN.{length}
 use Rattle.board.specs.Calls.{Reply, done, Makes, made, make-14}
 use Rattle.board.specs.Places.{emptyBoard}
-use Rattle.board.specs.History.{Event, put-on, take-off, act, History, new}
-use Rattle.board.specs.History as history
+use Rattle.histories.specs.History.{Event, put-on, take-off, act, History, new}
+use Rattle.histories.specs.History as history
 use Rattle.board.specs.declared.Board.{Board}
-use Rattle.lemondarts.specs.Record.{boardOf, recordOf}
+use Rattle.lemondarts.specs.Record.{recordLength, boardOf, written}
 use Rattle.lemondarts.specs.Numbers.{packedReply, changes}
 use Rattle.lemondarts.specs.Exports.{recordAfter, short-record, called, NewBoardReturns, PutOnReturns, TakeOffReturns, ActionReturns}
 use Rattle.lemondarts.specs.Session.{changeReply, actionReply, Session, begun, then-put, then-take, then-act}
+use Rattle.lemondarts.proofs.ReadBack.{length-written}
 use Rattle.lemondarts.proofs.Kept.{made-kept, put-kept, take-kept, act-kept}
 use Rattle.lemondarts.proofs.Answers.{put-answer, take-answer, act-answer}
 
-sixteen : (board : Board) → length (recordOf board) ≡ 16
-unfolding recordOf
-sixteen board = refl
-
 -- the record keeps its length
-record-length : (bytes : List ℕ) (reply : Reply) (next : Board) → 16 ≤ length bytes → length (recordAfter bytes reply next) ≡ length bytes
+record-length : (bytes : List ℕ) (reply : Reply) (next : Board) → recordLength ≤ length bytes → length (recordAfter bytes reply next) ≡ length bytes
 record-length bytes reply next h = chosen (changes reply)
   where
-    chosen : (b : Bool) → length (cond b (recordOf next ++ drop 16 bytes) bytes) ≡ length bytes
-    chosen true = omega (arith, length-append (recordOf next) (drop 16 bytes), sixteen next, length-drop 16 bytes)
+    chosen : (b : Bool) → length (cond b (written next bytes) bytes) ≡ length bytes
+    chosen true = length-written next bytes h
     chosen false = refl
 
 pub record HeldBy (events : List Event) (bytes area : List ℕ) : Type 0 where
-  pub long : 16 ≤ length bytes
+  pub long : recordLength ≤ length bytes
   pub history : History events (boardOf bytes) area
 
 -- the bytes that a call leaves hold what the wrapped call left
 keeps : (event : Reply → Event) {events : List Event} (bytes : List ℕ) {left : List ℕ} {reply : Reply} (next : Board) (read : Reply)
-    → 16 ≤ length bytes → read ≡ reply → boardOf (recordAfter bytes reply next) ≡ next → History (event reply ∷ events) next left
+    → recordLength ≤ length bytes → read ≡ reply → boardOf (recordAfter bytes reply next) ≡ next → History (event reply ∷ events) next left
     → HeldBy (event read ∷ events) (recordAfter bytes reply next) left
 keeps event {events} bytes {left} {reply} next read long e k h = record {
-  long = subst (λ (n : ℕ). 16 ≤ n) (sym (record-length bytes reply next long)) long;
+  long = subst (λ (n : ℕ). recordLength ≤ n) (sym (record-length bytes reply next long)) long;
   history =
       subst (λ (r : Reply). History (event r ∷ events) (boardOf (recordAfter bytes reply next)) left) (sym e)
       (subst (λ (b : Board). History (event reply ∷ events) b left) (sym k) h);
@@ -49,7 +46,7 @@ keeps event {events} bytes {left} {reply} next read long e k h = record {
 begins : {lent old bytes area : List ℕ} {returned : ℕ} → NewBoardReturns old lent returned bytes area → returned ≡ 0 → HeldBy [] bytes area
 begins (short-record n) e = absurd (omega arith)
 begins {lent} {old} (called long reply next left (made w)) e = record {
-  long = subst (λ (n : ℕ). 16 ≤ n) (sym (record-length old done emptyBoard long)) long;
+  long = subst (λ (n : ℕ). recordLength ≤ n) (sym (record-length old done emptyBoard long)) long;
   history = subst (λ (b : Board). History [] b left) (sym (made-kept old)) (new {lent = lent} (made w));
 }
 begins (called long reply next left (make-14 n)) e = absurd (omega arith)

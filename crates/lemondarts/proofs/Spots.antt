@@ -10,19 +10,7 @@ use Rattle.compiler.specs.Calling.{CompilesInto, short, compiles}
 use Rattle.compiler_laws.proofs.CompiledTable.{compiled-as}
 use Rattle.compiler_laws.proofs.Spots.{refused-low}
 use Rattle.lemondarts.specs.Numbers.{packedAnswer}
-use Rattle.lemondarts.specs.Session.{numberIn, valueIn}
-use Rattle.lemondarts.proofs.Answers.{number-of, value-of, TableNumber}
-
--- What the returned number says of an answer.
-abbrev pub Says : Answer → ℕ → Type 0
-Says (accepted type actions rows) returned = TableNumber type actions rows returned
-Says (refused number spot) returned = (numberIn returned ≡ number) × (valueIn returned ≡ spot)
-
-refused-says : (number spot : ℕ) → number < 256 → spot < 256 → Says (refused number spot) (packedAnswer (refused number spot))
-refused-says number spot n s = (number-of number spot 0 0 n s (omega arith) (omega arith), value-of number spot 0 0 n s (omega arith) (omega arith))
-
-table-says : (type actions rows : ℕ) → type ≤ 2 → actions ≤ 16 → rows ≤ 64 → Says (accepted type actions rows) (packedAnswer (accepted type actions rows))
-table-says type actions rows t a r = record { is-done = omega arith; is-type = omega arith; is-actions = omega arith; is-rows = omega arith }
+use Rattle.lemondarts.proofs.Answers.{Says, table-says, refused-says}
 
 compiles-says : (bytes : List ℕ) (answer : Answer) {written : List ℕ} → Compiles bytes 1024 64 answer written → Says answer (packedAnswer answer)
 compiles-says bytes (refused number spot) c = let l = refused-low bytes c in refused-says number spot (omega (arith, l .0)) (omega (arith, l .1))

@@ -2,13 +2,13 @@
 -- Assumes nothing.
 use mathlib.Core.Path.{_≡_}
 use mathlib.Core.Bool.{cond}
-use mathlib.Core.List.{List, _++_}
+use mathlib.Core.List.{List}
 use Prim.Native.Nat.{ℕ, _≤_}
-use lib.ListN.{length, drop}
+use lib.ListN.{length}
 use Rattle.table.specs.Answer.{Answer, Loads}
 use Rattle.board.specs.Calls.{Reply, input, Makes, PutsOn, TakesOff, Acts}
 use Rattle.board.specs.declared.Board.{Board}
-use Rattle.lemondarts.specs.Record.{boardOf, recordOf}
+use Rattle.lemondarts.specs.Record.{recordLength, boardOf, written}
 use Rattle.lemondarts.specs.Numbers.{packedReply, packedAnswer, changes}
 
 -- The loader: the number of what it answers.
@@ -17,15 +17,15 @@ pub record LoadReturns (table : List ℕ) (returned : ℕ) : Type 0 where
   pub loads : Loads table answer
   pub number : returned ≡ packedAnswer answer
 
--- The record after a call: where the answer changes the board, its first 16 bytes are the next board's, and those behind them as they were.
+-- The record after a call: where the answer changes the board, the next board is written over its front.
 abbrev pub recordAfter : List ℕ → Reply → Board → List ℕ
-recordAfter bytes reply next = cond (changes reply) (recordOf next ++ drop 16 bytes) bytes
+recordAfter bytes reply next = cond (changes reply) (written next bytes) bytes
 
--- A call of the board on a record and an area: refusal 14 for a record under 16 bytes, else what the board's own call answers, with the record
+-- A call of the board on a record and an area: refusal 14 for a record under its length, else what the board's own call answers, with the record
 -- and the area that it leaves.
 pub data Returns (call : Reply → Board → List ℕ → Type 0) (bytes area : List ℕ) : ℕ → List ℕ → List ℕ → Type 0 where
-  short-record : (16 ≤ length bytes → ⊥) → Returns call bytes area (packedReply (input 14 0)) bytes area
-  called : 16 ≤ length bytes → (reply : Reply) (next : Board) (left : List ℕ) → call reply next left
+  short-record : (recordLength ≤ length bytes → ⊥) → Returns call bytes area (packedReply (input 14 0)) bytes area
+  called : recordLength ≤ length bytes → (reply : Reply) (next : Board) (left : List ℕ) → call reply next left
       → Returns call bytes area (packedReply reply) (recordAfter bytes reply next) left
 
 -- The four calls. The old record is not read by the first; the last only reads the area.

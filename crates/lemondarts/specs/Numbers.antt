@@ -1,16 +1,31 @@
--- Answers as one number of 32 bits: the number of the answer, a value, a count of actions and a count of rows, a byte each, lowest first.
+-- Answers as one number of 64 bits: the number of the answer, a value, a count of actions and a count of rows, 16 bits each, lowest first.
 -- Assumes nothing.
 use mathlib.Core.Path.{_≡_}
 use mathlib.Core.Bool.{Bool, true, false}
-use Prim.Native.Nat.{ℕ, _+_, _*_, _%_}
+use mathlib.Core.List.{List, [], _∷_}
+use Prim.Native.Nat.{ℕ, zero, suc, _+_, _*_, _/_, _%_}
 use Rattle.table.specs.Answer.{Answer, accepted, refused}
 use Rattle.board.specs.Calls.{Reply, done, permitted, denied, input, state}
 
--- Four bytes. What the calls answer is below 256 in each (proofs/Answers.antt, Spots.antt), so nothing is lost.
-abbrev pub pack : (number value actions rows : ℕ) → ℕ
-pack number value actions rows = number % 256 + 256 * (value % 256) + 65536 * (actions % 256) + 16777216 * (rows % 256)
+-- A field has 16 bits: it is below this.
+abbrev pub fieldSize : ℕ
+fieldSize = 65536
 
--- Number 0 is done and 255 is denied; any other is the refusal's number of document 01, its value the spot.
+-- Fields as the digits of one number, lowest first, and the field at a place of a number. What is below `fieldSize` is read back as it was
+-- (proofs/Fields.antt).
+abbrev pub packFields : List ℕ → ℕ
+packFields [] = 0
+packFields (field ∷ rest) = field % fieldSize + fieldSize * packFields rest
+
+abbrev pub fieldIn : ℕ → ℕ → ℕ
+fieldIn zero packed = packed % fieldSize
+fieldIn (suc i) packed = fieldIn i (packed / fieldSize)
+
+-- Every field of what the calls answer is below `fieldSize` (proofs/Answers.antt, Spots.antt), so nothing is cut off.
+abbrev pub pack : (number value actions rows : ℕ) → ℕ
+pack number value actions rows = packFields (number ∷ value ∷ actions ∷ rows ∷ [])
+
+-- Number 0 is done and 255 is denied; any other is the number of a refusal (docs/FORMATS.md), its value the spot.
 abbrev pub packedReply : Reply → ℕ
 packedReply done = pack 0 0 0 0
 packedReply (permitted fulfilled) = pack 0 fulfilled 0 0

@@ -1,15 +1,24 @@
--- A board as 16 bytes, two a place: the case (0 empty, 1 enforced, 2 watched, 3 fulfilled) and the row.
+-- A board as a record of bytes, two a place: the case (0 empty, 1 enforced, 2 watched, 3 fulfilled) and the row.
 -- Assumes nothing.
 use mathlib.Core.Bool.{cond}
-use mathlib.Core.List.{List, [], _∷_}
-use Prim.Native.Nat.{ℕ}
+use mathlib.Core.List.{List, [], _∷_, _++_}
+use Prim.Native.Nat.{ℕ, _+_, _*_}
 use lib.Dec.{eqb}
-use lib.ListN.{getD}
+use lib.ListN.{getD, drop}
+use Rattle.base.specs.Build.{filled, joined}
+use Rattle.board.specs.Layout.{placeCount}
 use Rattle.board.specs.Places.{caseAt}
 use Rattle.board.specs.declared.Case.{Case}
 use Rattle.board.specs.declared.Case.the-variants.{Empty, Enforced, Watched, Fulfilled}
 use Rattle.board.specs.declared.Place.{Place}
 use Rattle.board.specs.declared.Board.{Board}
+
+-- The bytes of a place, and those of a record.
+abbrev pub placeLength : ℕ
+placeLength = 2
+
+abbrev pub recordLength : ℕ
+recordLength = placeLength * placeCount
 
 -- Any two bytes are a place. A case byte above 3 is read as an enforced rule at row 255, which no table has. The row byte of an empty or
 -- fulfilled place is not read.
@@ -20,16 +29,16 @@ caseOf case row =
 abbrev pub placeOf : ℕ → ℕ → Place
 placeOf case row = record { case = caseOf case row }
 
--- Any bytes are a board: the first 16 are read, and zeros where there are fewer.
+-- Place i of a record.
+abbrev pub placeAt : List ℕ → ℕ → Place
+placeAt bytes i = placeOf (getD bytes (placeLength * i) 0) (getD bytes (placeLength * i + 1) 0)
+
+-- Any bytes are a board: those of its places are read, and zeros where there are fewer.
+abbrev pub placesTo : List ℕ → ℕ → List Place
+placesTo bytes n = filled placeCount (record { case = Empty }) (λ i before. placeAt bytes i) n
+
 unfoldable pub boardOf : List ℕ → Board
-boardOf bytes =
-    record {
-      places =
-          placeOf (getD bytes 0 0) (getD bytes 1 0) ∷ placeOf (getD bytes 2 0) (getD bytes 3 0)
-          ∷ placeOf (getD bytes 4 0) (getD bytes 5 0) ∷ placeOf (getD bytes 6 0) (getD bytes 7 0)
-          ∷ placeOf (getD bytes 8 0) (getD bytes 9 0) ∷ placeOf (getD bytes 10 0) (getD bytes 11 0)
-          ∷ placeOf (getD bytes 12 0) (getD bytes 13 0) ∷ placeOf (getD bytes 14 0) (getD bytes 15 0) ∷ [];
-    }
+boardOf bytes = record { places = placesTo bytes placeCount }
 
 abbrev pub caseByte : Case → ℕ
 caseByte Empty = 0
@@ -43,10 +52,16 @@ rowByte (Enforced row) = row
 rowByte (Watched row) = row
 rowByte Fulfilled = 0
 
+abbrev pub placeBytes : Case → List ℕ
+placeBytes case = caseByte case ∷ rowByte case ∷ []
+
 -- The bytes of a board. Reading back what was written gives the same board (proofs/ReadBack.antt).
+abbrev pub bytesTo : Board → ℕ → List ℕ
+bytesTo board n = joined n (λ i. placeBytes (caseAt board i))
+
 unfoldable pub recordOf : Board → List ℕ
-recordOf board =
-    caseByte (caseAt board 0) ∷ rowByte (caseAt board 0) ∷ caseByte (caseAt board 1) ∷ rowByte (caseAt board 1)
-    ∷ caseByte (caseAt board 2) ∷ rowByte (caseAt board 2) ∷ caseByte (caseAt board 3) ∷ rowByte (caseAt board 3)
-    ∷ caseByte (caseAt board 4) ∷ rowByte (caseAt board 4) ∷ caseByte (caseAt board 5) ∷ rowByte (caseAt board 5)
-    ∷ caseByte (caseAt board 6) ∷ rowByte (caseAt board 6) ∷ caseByte (caseAt board 7) ∷ rowByte (caseAt board 7) ∷ []
+recordOf board = bytesTo board placeCount
+
+-- A board written over the front of a record: what stands behind it is as it was.
+abbrev pub written : Board → List ℕ → List ℕ
+written board bytes = recordOf board ++ drop recordLength bytes

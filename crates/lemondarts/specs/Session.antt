@@ -2,18 +2,19 @@
 -- Assumes nothing.
 use mathlib.Core.Bool.{cond}
 use mathlib.Core.List.{List, [], _∷_}
-use Prim.Native.Nat.{ℕ, _/_, _%_}
+use Prim.Native.Nat.{ℕ}
 use lib.Dec.{eqb, ltb}
 use Rattle.board.specs.Calls.{Reply, done, permitted, denied, input, state}
-use Rattle.board.specs.History.{Event, put-on, take-off, act}
+use Rattle.histories.specs.History.{Event, put-on, take-off, act}
+use Rattle.lemondarts.specs.Numbers.{fieldIn}
 use Rattle.lemondarts.specs.Exports.{NewBoardReturns, PutOnReturns, TakeOffReturns, ActionReturns}
 
--- The lowest byte of a returned number, and the next.
+-- The lowest field of a returned number, and the next.
 abbrev pub numberIn : ℕ → ℕ
-numberIn returned = returned % 256
+numberIn returned = fieldIn 0 returned
 
 abbrev pub valueIn : ℕ → ℕ
-valueIn returned = returned / 256 % 256
+valueIn returned = fieldIn 1 returned
 
 -- An answer by its number and value. Refusals from the input have numbers up to 14, those from the state from 21.
 abbrev pub replyBy : Reply → (number value : ℕ) → Reply

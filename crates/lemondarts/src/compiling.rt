@@ -9,7 +9,7 @@ ghost use Rattle.compiler.specs.Calling.{answerOf};
 ghost use Rattle.lemondarts.specs.Numbers.{packedAnswer};
 ghost use Rattle.lemondarts.specs.Compiling.{CompileReturns};
 
-fn compile_number(answer: Compiled) -> u32
+fn compile_number(answer: Compiled) -> u64
     ensures { λ r. ⌜ r ≡ packedAnswer (answerOf answer) ⌝ }
 {
     match answer {
@@ -32,7 +32,7 @@ pub extern "C" fn lemondarts_compile(
     out: &mut [u8],
     work: &mut [u8],
     values: &mut [u64],
-) -> u32
+) -> u64
     ensures { λ r. ⌜ CompileReturns (now (sheet .entry)) (now (out .entry)) (now (work .entry)) (now (values .entry)) r (now (out .exit)) (now (work .exit)) (now (values .exit)) ⌝ }
 {
     compile_number(compiler::compile(sheet, out, work, values))

@@ -1,4 +1,4 @@
-// The public calls for C: numbers and byte slices only, a board as 16 bytes, an answer as one number. include/lemondarts.h declares them.
+// The public calls for C: numbers and byte slices only, a board as a record of bytes, an answer as one number. include/lemondarts.h declares them.
 mod calls;
 mod compiling;
 mod encoding;
@@ -12,4 +12,4 @@ pub use calls::lemondarts_take_off;
 pub use compiling::lemondarts_compile;
 
 // An answer: its number, and whether it changes the board.
-pub struct NumberedReply(pub u32, pub bool);
+pub struct NumberedReply(pub u64, pub bool);

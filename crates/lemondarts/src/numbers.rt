@@ -1,4 +1,4 @@
-// Answers as numbers of 32 bits. specs/Numbers.antt says which byte means what.
+// Answers as numbers of 64 bits. specs/Numbers.antt says which field means what.
 use crate::NumberedReply;
 use base::byte;
 use board::Act;
@@ -13,22 +13,23 @@ ghost use Rattle.table.specs.Answer.{answerOf, modeNumber};
 ghost use Rattle.board.specs.Replies.{madeReply, putReply, takeReply, actReply};
 ghost use Rattle.lemondarts.specs.Numbers.{pack as packed, packedAnswer, AnswerIs};
 
-// Four bytes in one number, lowest first.
-pub fn pack(number: usize, value: usize, actions: usize, rows: usize) -> u32
+// Four fields of 16 bits in one number, lowest first.
+pub fn pack(number: usize, value: usize, actions: usize, rows: usize) -> u64
     ensures { λ r. ⌜ r ≡ packed number value actions rows ⌝ }
 {
-    let low = (number % 256) as u32 + 256 * ((value % 256) as u32);
-    low + 65536 * ((actions % 256) as u32) + 16777216 * ((rows % 256) as u32)
+    let low = (number % 65536) as u64 + 65536 * ((value % 65536) as u64);
+    let high = (actions % 65536) as u64 + 65536 * ((rows % 65536) as u64);
+    low + 4294967296 * high
 }
 
 // A table's type, actions and rows.
-pub fn table_number(mode: Mode, actions: usize, rows: usize) -> u32
+pub fn table_number(mode: Mode, actions: usize, rows: usize) -> u64
     ensures { λ r. ⌜ r ≡ packed 0 (modeNumber mode) actions rows ⌝ }
 {
     pack(0, byte(mode_number(mode)), actions, rows)
 }
 
-pub fn load_number(answer: Loaded) -> u32
+pub fn load_number(answer: Loaded) -> u64
     ensures { λ r. ⌜ r ≡ packedAnswer (answerOf answer) ⌝ }
 {
     match answer {

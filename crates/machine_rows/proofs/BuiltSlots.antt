@@ -11,7 +11,7 @@ use lib.Seq.{getD-take}
 use Rattle.trace.specs.Trace.{Step}
 use Rattle.policy.specs.Closed.{Closed}
 use Rattle.rules.specs.Rules.{slotAt, partAt, Readable}
-use Rattle.rules.proofs.Slots.{slot-closed, slot-readable}
+use Rattle.rules.proofs.Slots.{slot-readable}
 use Rattle.machine_rows.specs.Builds.{SlotBuilt}
 
 -- its entries are rows or trips
@@ -26,4 +26,4 @@ entries-below {actions} {slot = slot} b k q =
 module _ {actions : ℕ} {step : Step ℕ} {start valueLimit rowLimit : ℕ} (work : List ℕ) (i : ℕ)
     (b : SlotBuilt actions step start valueLimit rowLimit (slotAt work i)) (limit : rowLimit ≤ 64) where
   pub built-readable : i < 64 → Readable work i
-  built-readable h = slot-readable work i (b .rows) (b .rows-for .low) (le-trans (b .rows-for .few) limit) (entries-below b) h
+  built-readable h = slot-readable work i (b .rows) (le-trans (b .rows-for .few) limit) (entries-below b) h

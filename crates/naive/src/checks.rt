@@ -9,6 +9,7 @@ use crate::types::type_of;
 ghost use mathlib.Core.Path.{_≡_};
 ghost use Prim.Native.Nat.{_<_, _≤_};
 ghost use lib.ListN.{length};
+ghost use Rattle.naive.specs.Nodes.{Located, nodePlace, FieldsAt, Finds};
 
 // Whether the areas lie behind the header, inside the total and apart.
 fn apart(laid: Areas, actions_end: usize, nodes_end: usize, total: usize) -> bool {
@@ -32,7 +33,7 @@ fn misplaced(number: usize) -> Areas
 
 // Where the areas of a sheet are, or the first refusal of 1 to 3.
 pub fn find_areas(bytes: &[u8]) -> Areas
-    ensures { λ r. ⌜ (r .number < 4) × (r .actions ≤ 16) × (r .nodes ≤ 64) ⌝ }
+    ensures { λ r. ⌜ Located (now (bytes .entry)) (r .number) (r .actions) (r .nodes) (r .«actions_at») (r .«nodes_at») ⌝ }
 {
     let total = number_at(bytes, 8);
     if (bytes.len() < 10) | (total != bytes.len()) {
@@ -69,7 +70,7 @@ pub fn find_areas(bytes: &[u8]) -> Areas
 
 // The fields of node n of a node list.
 pub fn node_at(bytes: &[u8], nodes_at: usize, n: usize) -> Fields
-    ensures { λ r. ⌜ (r .kind < 256) × (r .argument < 256) ⌝ }
+    ensures { λ r. ⌜ FieldsAt (now (bytes .entry)) (nodePlace «nodes_at» n) (r .kind) (r .argument) (r .a) (r .b) (r .c) ⌝ }
 {
     let from = nodes_at % 65536 + 5 * (n % 65536);
     Fields {
@@ -96,7 +97,7 @@ fn check_node(bytes: &[u8], nodes_at: usize, n: usize, types: &mut [usize]) -> u
 // That the last node, n, is a policy, or refusal 6.
 fn check_last(n: usize, mode: usize) -> Finding
     requires { ⌜ n < 64 ⌝ }
-    ensures { λ r. ⌜ (r .number < 8) × (r .spot < 64) × (r .mode ≤ 2) ⌝ }
+    ensures { λ r. ⌜ Finds (r .number) (r .spot) (r .mode) ⌝ }
 {
     if mode == 0 {
         return Finding {
@@ -115,7 +116,7 @@ fn check_last(n: usize, mode: usize) -> Finding
 // Checks 4 to 7, node by node, and then that the last node is a policy.
 fn check_nodes(bytes: &[u8], nodes: usize, nodes_at: usize, types: &mut [usize]) -> Finding
     requires { ⌜ nodes ≤ 64 ⌝ }
-    ensures { λ r. ⌜ (r .number < 8) × (r .spot < 64) × (r .mode ≤ 2) ⌝ }
+    ensures { λ r. ⌜ Finds (r .number) (r .spot) (r .mode) ⌝ }
 {
     let mut n = 0;
     while n < nodes {
@@ -143,7 +144,7 @@ fn room_for_types() -> [usize; 64]
 
 // The first refusal of 1 to 7, or the policy's mode.
 pub fn judge(bytes: &[u8]) -> Finding
-    ensures { λ r. ⌜ (r .number < 8) × (r .spot < 64) × (r .mode ≤ 2) ⌝ }
+    ensures { λ r. ⌜ Finds (r .number) (r .spot) (r .mode) ⌝ }
 {
     let found = find_areas(bytes);
     if 0 < found.number {

@@ -1,4 +1,4 @@
-// A second reading of rule sheets and tables, straight from document 01's meanings: checks 1 to 7, each node on every short sequence, and a
+// A second reading of rule sheets and tables, straight from the meanings of docs/FORMATS.md: checks 1 to 7, each node on every short sequence, and a
 // table's verdict beside the policy's. It has no rules, no remembered values and no refinement, and shares no code with the compiler.
 mod bytes;
 mod checks;

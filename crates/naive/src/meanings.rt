@@ -1,4 +1,4 @@
-// The meanings of document 01, on sequences. Truths are kept in a lent area of 64 times 2,048 bytes: at 2,048 * n + s stands 1 where node n is
+// The meanings of docs/FORMATS.md, "Policies", on sequences. Truths are kept in a lent area of 64 times 2,048 bytes: at 2,048 * n + s stands 1 where node n is
 // satisfied by the sequence numbered s, or, for an action formula, by the action s, and else 0. A node's truths are found from those of its
 // parts, which have lower numbers, and on sequences that are no longer.
 use crate::Areas;
@@ -12,12 +12,16 @@ use crate::sequences::number_of;
 use crate::sequences::spell;
 use crate::sequences::step;
 ghost use mathlib.Core.Path.{_≡_};
-ghost use Prim.Native.Nat.{_≤_};
+ghost use mathlib.Core.Bool.{cond};
+ghost use Prim.Native.Nat.{_+_, _≤_};
 ghost use lib.ListN.{length};
-ghost use Rattle.naive.specs.Truths.{Truths};
+ghost use Rattle.naive.specs.Sequences.{numberTo};
+ghost use Rattle.naive.specs.Truths.{Truths, truthAt, kept};
 
 // Whether node n is satisfied by the sequence, or the action, numbered s.
-fn truth(truths: &[u8], n: usize, s: usize) -> bool {
+fn truth(truths: &[u8], n: usize, s: usize) -> bool
+    ensures { λ r. ⌜ r ≡ truthAt (now (truths .entry)) n s ⌝ }
+{
     if 63 < n {
         return false;
     }
@@ -29,7 +33,7 @@ fn truth(truths: &[u8], n: usize, s: usize) -> bool {
 
 // A truth as a number.
 fn bit(holds: bool) -> usize
-    ensures { λ r. ⌜ r ≤ 1 ⌝ }
+    ensures { λ r. ⌜ (r ≡ cond holds 1 0) × (r ≤ 1) ⌝ }
 {
     if holds { 1 } else { 0 }
 }
@@ -37,7 +41,7 @@ fn bit(holds: bool) -> usize
 // Keeps a truth.
 fn keep(truths: &mut [u8], n: usize, s: usize, holds: bool)
     requires { ⌜ Truths (now truths) ⌝ }
-    ensures { λ _. ⌜ Truths (now (truths .exit)) ⌝ }
+    ensures { λ _. ⌜ Truths (now (truths .exit)) × (now (truths .exit) ≡ kept (now (truths .entry)) n s holds) ⌝ }
 {
     if 63 < n {
         return;
@@ -49,32 +53,60 @@ fn keep(truths: &mut [u8], n: usize, s: usize, holds: bool)
 }
 
 // Whether a sequence satisfies the part n.
-fn satisfies(truths: &[u8], actions: usize, n: usize, sequence: &[u8]) -> bool {
+fn satisfies(truths: &[u8], actions: usize, n: usize, sequence: &[u8]) -> bool
+    ensures { λ r. ⌜ r ≡ truthAt (now (truths .entry)) n (numberTo (now (sequence .entry)) actions (length (now (sequence .entry)))) ⌝ }
+{
     truth(truths, n, number_of(sequence, actions))
 }
 
-// The length of the first fulfilment of n: the shortest prefix that satisfies it. One more than the length where there is none.
-fn first_fulfilment(truths: &[u8], actions: usize, n: usize, sequence: &[u8]) -> usize {
-    let mut l = 0;
-    while l <= sequence.len() {
-        if satisfies(truths, actions, n, &sequence[0..l]) {
-            return l;
-        }
-        l += 1;
+// Whether n is satisfied by what stands before a cut of the sequence, or by what stands behind it.
+fn part_satisfies(
+    truths: &[u8],
+    actions: usize,
+    n: usize,
+    sequence: &[u8],
+    cut: usize,
+    before: bool,
+) -> bool
+    requires { ⌜ cut ≤ length (now sequence) ⌝ }
+{
+    if before {
+        return satisfies(truths, actions, n, &sequence[0..cut]);
     }
-    l
+    satisfies(truths, actions, n, &sequence[cut..])
+}
+
+// The first cut at which n judges what stands before it, or behind it, so. One more than the length where there is none.
+fn first_cut(
+    truths: &[u8],
+    actions: usize,
+    n: usize,
+    sequence: &[u8],
+    before: bool,
+    so: bool,
+) -> usize
+    ensures { λ r. ⌜ r ≤ length (now (sequence .entry)) + 1 ⌝ }
+{
+    let mut cut = 0;
+    while cut <= sequence.len() {
+        if part_satisfies(truths, actions, n, sequence, cut, before) == so {
+            return cut;
+        }
+        cut += 1;
+    }
+    cut
+}
+
+// The length of the first fulfilment of n: the shortest prefix that satisfies it. One more than the length where there is none.
+fn first_fulfilment(truths: &[u8], actions: usize, n: usize, sequence: &[u8]) -> usize
+    ensures { λ r. ⌜ r ≤ length (now (sequence .entry)) + 1 ⌝ }
+{
+    first_cut(truths, actions, n, sequence, true, true)
 }
 
 // Whether some suffix, the whole and the empty one among them, is judged so by n.
 fn some_suffix(truths: &[u8], actions: usize, n: usize, sequence: &[u8], so: bool) -> bool {
-    let mut from = 0;
-    while from <= sequence.len() {
-        if satisfies(truths, actions, n, &sequence[from..]) == so {
-            return true;
-        }
-        from += 1;
-    }
-    false
+    first_cut(truths, actions, n, sequence, false, so) <= sequence.len()
 }
 
 // Before: the prefix up to and with the first fulfilment of a, or the whole, satisfies b.

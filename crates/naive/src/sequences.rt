@@ -5,6 +5,7 @@ use crate::bytes::put;
 ghost use mathlib.Core.Path.{_≡_};
 ghost use Prim.Native.Nat.{_-_, _*_, _%_, _<_, _≤_};
 ghost use lib.ListN.{length};
+ghost use Rattle.naive.specs.Sequences.{stepped, numberTo};
 
 // How many sequences are judged: all of up to 130, 10, 6, 5, 4, 4 actions for 1 to 6 actions in the list, of up to 3 for 7 to 12, and of up to 2.
 pub fn judged(actions: usize) -> usize
@@ -40,7 +41,7 @@ pub fn times(a: usize, b: usize) -> usize
 
 // The sequence s and then an action.
 pub fn step(s: usize, action: usize, actions: usize) -> usize
-    ensures { λ r. ⌜ r ≤ 2048 ⌝ }
+    ensures { λ r. ⌜ (r ≡ stepped s action actions) × (r ≤ 2048) ⌝ }
 {
     if 2047 < s {
         return 2048;
@@ -51,7 +52,7 @@ pub fn step(s: usize, action: usize, actions: usize) -> usize
 
 // The number of a sequence that is spelled out.
 pub fn number_of(letters: &[u8], actions: usize) -> usize
-    ensures { λ r. ⌜ r ≤ 2048 ⌝ }
+    ensures { λ r. ⌜ (r ≡ numberTo (now (letters .entry)) actions (length (now (letters .entry)))) × (r ≤ 2048) ⌝ }
 {
     let mut s = 0;
     let mut i = 0;

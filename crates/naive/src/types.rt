@@ -148,7 +148,7 @@ fn bound_of(kind: usize, argument: usize, a: usize, b: usize, c: usize) -> usize
 // The type of node n, from the types of the nodes before it, or the first refusal of 4 to 7.
 pub fn type_of(node: Fields, n: usize, types: &[usize]) -> Type
     requires { ⌜ node .argument < 256 ⌝ }
-    ensures { λ r. ⌜ (r .number < 8) × (r .code < 4000004) ⌝ }
+    ensures { λ r. ⌜ (r .number < 8) × (r .code < 4000004) × (0 < r .number → r .code ≡ 0) ⌝ }
 {
     let wrong = check_fields(node, n);
     if 0 < wrong {

@@ -9,12 +9,14 @@ use crate::sequences::judged;
 use crate::sequences::spell;
 use crate::sequences::times;
 ghost use mathlib.Core.Path.{_≡_};
-ghost use Prim.Native.Nat.{_≤_};
+ghost use Prim.Native.Nat.{_-_, _≤_, _<_};
 ghost use lib.ListN.{length};
 ghost use Rattle.naive.specs.Truths.{Truths};
 
 // The row behind a row by an action. A trip stays.
-fn next_row(table: &[u8], actions: usize, row: usize, action: usize) -> usize {
+fn next_row(table: &[u8], actions: usize, row: usize, action: usize) -> usize
+    ensures { λ r. ⌜ r < 256 ⌝ }
+{
     if row == 255 {
         return 255;
     }
@@ -39,7 +41,9 @@ fn policy_trips(truths: &[u8], n: usize, mode: usize, s: usize) -> bool {
 }
 
 // The number of the last of so many nodes.
-fn last_node(nodes: usize) -> usize {
+fn last_node(nodes: usize) -> usize
+    ensures { λ r. ⌜ r ≡ nodes - 1 ⌝ }
+{
     if nodes == 0 { 0 } else { nodes - 1 }
 }
 

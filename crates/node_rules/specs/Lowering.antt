@@ -1,7 +1,7 @@
 -- Lowering a sheet's nodes: a formula node to the set of actions that satisfy it, a policy node to its rule.
 -- Assumes nothing.
 use mathlib.Core.Path.{_≡_}
-use mathlib.Core.Bool.{Bool, cond}
+use mathlib.Core.Bool.{Bool, true, false, cond}
 use mathlib.Core.List.{List}
 use Prim.Native.Nat.{ℕ, zero, suc, _+_, _-_, _^_, _<_}
 use lib.Bits.{bitAnd, bitOr}
@@ -67,11 +67,15 @@ firstSets sheet n = filled 64 0 (λ i sets. setOf sheet (setAt sets) (nodeOf she
 abbrev pub setsOf : Sheet → List ℕ
 setsOf sheet = firstSets sheet (sheet .count)
 
--- And and Or go by the type of their first part.
+-- Whether a node is an enforced policy.
+abbrev pub isEnforced : NodeType → Bool
+isEnforced Formula = false
+isEnforced (Policy Watched k) = false
+isEnforced (Policy Enforced k) = true
+
+-- And and Or go by whether their first part is enforced.
 abbrev pub byMode : NodeType → NodeRule → NodeRule → NodeRule
-byMode Formula watched enforced = watched
-byMode (Policy Watched k) watched enforced = watched
-byMode (Policy Enforced k) watched enforced = enforced
+byMode part watched enforced = cond (isEnforced part) enforced watched
 
 -- The rule of a policy node.
 abbrev pub lowered : (ℕ → NodeType) → (ℕ → ℕ) → Node → Lowered

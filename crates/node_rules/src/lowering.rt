@@ -13,19 +13,26 @@ use trace::Mode;
 ghost use mathlib.Core.Path.{_≡_};
 ghost use Rattle.syntax.specs.Formed.{Formed};
 ghost use Rattle.syntax.specs.Types.{typeAt};
-ghost use Rattle.node_rules.specs.Lowering.{setAt, byMode, lowered, rulesOf};
+ghost use Rattle.node_rules.specs.Lowering.{setAt, isEnforced, byMode, lowered, rulesOf};
 
-// The rule for parts of a type's mode.
+// Whether a node is an enforced policy.
+fn is_enforced(node: NodeType) -> bool
+    ensures { λ r. ⌜ r ≡ isEnforced node ⌝ }
+{
+    match node {
+        NodeType::Formula => false,
+        NodeType::Policy(m, _) => match m {
+            Mode::Watched => false,
+            Mode::Enforced => true,
+        },
+    }
+}
+
+// The rule for parts of the first one's mode.
 fn by_mode(part: NodeType, watched: NodeRule, enforced: NodeRule) -> NodeRule
     ensures { λ r. ⌜ r ≡ byMode part watched enforced ⌝ }
 {
-    match part {
-        NodeType::Formula => watched,
-        NodeType::Policy(m, _) => match m {
-            Mode::Watched => watched,
-            Mode::Enforced => enforced,
-        },
-    }
+    if is_enforced(part) { enforced } else { watched }
 }
 
 // What a node is lowered to, from the types and the sets of the nodes before it.

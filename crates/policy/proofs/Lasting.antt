@@ -12,12 +12,11 @@ use borrow.Author.Tests.{leb-true, le-leb, lt-leb}
 use Rattle.trace.specs.Trace.{Move, trip, go, run, tripped}
 use Rattle.trace.proofs.Laws.{not-both, run-trip, run-append}
 use Rattle.policy.specs.Words.{Property, firstAction, someSuffix, one-more, first, upTo, following, without}
-use Rattle.policy.specs.Rule.{Rule, opening, counting, same, both, either, copied, until, then, timed, filtered, onParts, timedTrips, ruleTrips}
+use Rattle.policy.specs.Rule.{Rule, opening, counting, same, both, either, copied, until, then, timed, filtered, timedTrips, ruleTrips}
 use Rattle.policy.specs.Parts.{AllParts, Positive}
 use Rattle.policy.specs.Lasting.{Lasting}
 use Rattle.policy.specs.Value.{Part, partTrips}
 use Rattle.policy.proofs.Words.{without-append}
-use Rattle.policy.proofs.Parts.{all-parts, positive-on}
 use Rattle.policy.proofs.Residual.{first-now, first-empty, up-to-later, following-later, late-empty, timed-later, timed-now, timed-over}
 
 -- a machine's trip stays
@@ -151,8 +150,3 @@ rule-lasting (until a b) p l = until-lasting a b (l .0) (l .1)
 rule-lasting (then a b) p l = then-lasting a b (l .0) (l .1)
 rule-lasting (timed k a b c) p l = timed-lasting k a b c (l .0) (l .1) (l .2)
 rule-lasting (filtered hit a) p l = filtered-lasting hit a l
-
--- a rule over machines
-pub machines-lasting : (rule : Rule Part) → Positive rule → Lasting (ruleTrips (onParts partTrips rule))
-machines-lasting rule p =
-    rule-lasting (onParts partTrips rule) (positive-on partTrips rule p) (all-parts Lasting partTrips part-lasting rule)

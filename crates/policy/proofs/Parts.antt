@@ -21,19 +21,6 @@ all-apply Q R f (then a b) h q = (h .0 (q .0), h .1 (q .1))
 all-apply Q R f (timed k a b c) h q = (h .0 (q .0), h .1 (q .1), h .2 (q .2))
 all-apply Q R f (filtered hit a) h q = h q
 
--- what holds of everything holds of the parts
-pub all-parts : {P X : Type 0} (R : X → Type 0) (f : P → X) → ((a : P) → R (f a)) → (rule : Rule P) → AllParts R (onParts f rule)
-all-parts R f h (opening hit) = tt
-all-parts R f h (counting k) = tt
-all-parts R f h (same a) = h a
-all-parts R f h (both a b) = (h a, h b)
-all-parts R f h (either a b) = (h a, h b)
-all-parts R f h (copied a) = h a
-all-parts R f h (until a b) = (h a, h b)
-all-parts R f h (then a b) = (h a, h b)
-all-parts R f h (timed k a b c) = (h a, h b, h c)
-all-parts R f h (filtered hit a) = h a
-
 pub positive-on : {P X : Type 0} (f : P → X) (rule : Rule P) → Positive rule → Positive (onParts f rule)
 positive-on f (opening hit) p = p
 positive-on f (counting k) p = p

@@ -30,19 +30,19 @@ module _ (f g : Part) where
   started w = run-with marked (stepOf (then f g)) g (λ r a. refl) w (go 0) ∙ answer-with marked (placeOf g w)
 
   -- an action that fulfils a leaves b at its start, and any other moves a
-  row-step : (q a : ℕ) (m : Move ℕ) → f q a ≡ m → stepOf (then f g) (row q) a ≡ thenMove m
+  row-step : (q a : ℕ) (m : Move ℕ) → f q a ≡ m → stepOf (then f g) (row q) a ≡ thenMove m (go 0)
   row-step q a trip e = rw e refl
   row-step q a (go r) e = rw e refl
 
   then-run : (w : List ℕ) (m : Move ℕ)
-      → run (stepOf (then f g)) (thenMove m) w
+      → run (stepOf (then f g)) (thenMove m (go 0)) w
       ≡ answer (following false (first (tripsFrom f m) w) (partTrips g) w) (value (first (tripsFrom f m) w) (run f m w) w)
   then-run [] trip = refl
   then-run [] (go q) = refl
   then-run (a ∷ w) trip = started (a ∷ w)
   then-run (a ∷ w) (go q) =
       ap (λ (m : Move Then). run (stepOf (then f g)) m w) (row-step q a (f q a) refl)
-      ∙ later (run (stepOf (then f g)) (thenMove (f q a)) w) (first (tripsFrom f (f q a)) w) (run f (f q a) w) a w (then-run w (f q a))
+      ∙ later (run (stepOf (then f g)) (thenMove (f q a) (go 0)) w) (first (tripsFrom f (f q a)) w) (run f (f q a) w) a w (then-run w (f q a))
 
   same-value : (r : Option ℕ) (w : List ℕ) → value r (placeOf f w) w ≡ rememberedThen r f g w
   same-value none w = refl

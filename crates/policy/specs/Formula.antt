@@ -1,4 +1,4 @@
--- Action formulas (document 01, kinds 1 to 6; document 002, definition 5) over the 16 propositions that an action may satisfy.
+-- Action formulas (docs/FORMATS.md, "Action formulas"; Xu and Fong, definition 5) over the 16 propositions that an action may satisfy.
 -- Assumes nothing.
 use mathlib.Core.Bool.{Bool, true, false, not, _&&_, _||_}
 use Prim.Native.Nat.{ℕ, _/_, _%_, _^_}

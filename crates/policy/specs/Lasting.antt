@@ -1,4 +1,4 @@
--- Neither is tripped at the empty sequence and neither untrips (document 01, 'Policies').
+-- Neither is tripped at the empty sequence and neither untrips (docs/FORMATS.md, "Policies").
 -- Assumes nothing.
 use mathlib.Core.Path.{_≡_}
 use mathlib.Core.Bool.{true, false}

@@ -1,4 +1,4 @@
--- Policies (document 01, kinds 10 to 23) and their meanings on finite sequences, line by line of its table.
+-- Policies (docs/FORMATS.md, "Policies", kinds 10 to 23) and their meanings on finite sequences, line by line of its table.
 -- Assumes nothing.
 use mathlib.Core.Bool.{Bool, true, false, cond, not, _&&_, _||_}
 use mathlib.Core.List.{List}

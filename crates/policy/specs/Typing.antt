@@ -1,10 +1,10 @@
--- Types and bounds of policies (document 01's column 'type, bound'; document 002, figure 4).
+-- Types and bounds of policies (docs/FORMATS.md, "Policies", columns 'type' and 'bound'; Xu and Fong, figure 4).
 -- Assumes nothing.
 use mathlib.Core.Bool.{Bool, true, false, cond, not}
 use mathlib.Core.List.{List}
 use Prim.Native.Nat.{ℕ, _+_, max}
 use lib.Dec.{eqb, leb}
--- watched: the source's mon, trips when it becomes satisfied; enforced: the source's enf, trips when it becomes violated
+-- watched (Xu and Fong's mon): trips when it becomes satisfied; enforced (enf): trips when it becomes violated
 pub use Rattle.trace.specs.declared.Mode.{Mode}
 pub use Rattle.trace.specs.declared.Mode.the-variants.{Watched as watched, Enforced as enforced}
 pub use Rattle.policy.specs.declared.Bound.{Bound}

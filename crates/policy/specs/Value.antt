@@ -1,4 +1,4 @@
--- What is remembered of a sequence while it has not tripped (document 01's last column), and the step from one value to the next.
+-- What is remembered of a sequence while it has not tripped (docs/FORMATS.md, "Policies", last column), and the step from one value to the next.
 -- A part is a machine with states 0, 1, .. (the rows of its table) that starts at 0. A remembered value is a state of the product or
 -- subset construction before minimisation.
 -- Assumes nothing.
@@ -159,13 +159,14 @@ abbrev pub goWith : {X : Type 0} → (ℕ → X) → Move ℕ → Move X
 goWith wrap trip = trip
 goWith wrap (go r) = go (wrap r)
 
--- b starts on the action behind the one that fulfils a
-abbrev pub thenMove : Move ℕ → Move Then
-thenMove trip = go (marked 0)
-thenMove (go q) = go (row q)
+-- a's move, and where b stands once a is fulfilled
+abbrev pub thenMove : Move ℕ → Move ℕ → Move Then
+thenMove trip b = goWith marked b
+thenMove (go q) b = go (row q)
 
+-- b starts on the action behind the one that fulfils a: it has read nothing yet
 abbrev pub stepThen : Part → Part → Then → ℕ → Move Then
-stepThen f g (row q) a = thenMove (f q a)
+stepThen f g (row q) a = thenMove (f q a) (placeOf g [])
 stepThen f g (marked r) a = goWith marked (g r a)
 
 -- the actions so far, this one among them, are n

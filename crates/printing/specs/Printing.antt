@@ -8,6 +8,17 @@ use Rattle.printing.specs.Text.{tableText, refusalText}
 use Rattle.printing.specs.declared.Printed.{Printed}
 use Rattle.printing.specs.declared.Printed.the-variants.{Written, OutOfRange, ShortText}
 
+-- An answer: so many bytes were written, or the number of a refusal. A text area that is too short is 14; values that no table, or no refusal,
+-- has are 10.
+pub data Outcome : Type 0 where
+  wrote : (count : ℕ) → Outcome
+  refused : (number : ℕ) → Outcome
+
+abbrev pub outcomeOf : Printed → Outcome
+outcomeOf (Written count) = wrote count
+outcomeOf OutOfRange = refused 10
+outcomeOf ShortText = refused 14
+
 -- The counts of a table, and enough entries for them.
 pub record TableInRange (actions rows : ℕ) (entries : List ℕ) : Type 0 where
   pub actions-low : 1 ≤ actions
@@ -21,18 +32,18 @@ pub record RefusalInRange (number spot : ℕ) : Type 0 where
   pub spot-high : spot < 1000
 
 -- A text is given to an area: at its front with the rest unchanged where it fits, else not at all.
-pub data Gives (text old : List ℕ) : Printed → List ℕ → Type 0 where
-  fits : length text ≤ length old → Gives text old (Written (length text)) (text ++ drop (length text) old)
-  short : length old < length text → Gives text old ShortText old
+pub data Gives (text old : List ℕ) : Outcome → List ℕ → Type 0 where
+  fits : length text ≤ length old → Gives text old (wrote (length text)) (text ++ drop (length text) old)
+  short : length old < length text → Gives text old (refused 14) old
 
-pub data PrintsTable (mode : Mode) (actions rows : ℕ) (entries old : List ℕ) : Printed → List ℕ → Type 0 where
-  out-of-range : (TableInRange actions rows entries → ⊥) → PrintsTable mode actions rows entries old OutOfRange old
-  in-range : (answer : Printed) (new : List ℕ) → TableInRange actions rows entries → Gives (tableText mode actions rows entries) old answer new
+pub data PrintsTable (mode : Mode) (actions rows : ℕ) (entries old : List ℕ) : Outcome → List ℕ → Type 0 where
+  out-of-range : (TableInRange actions rows entries → ⊥) → PrintsTable mode actions rows entries old (refused 10) old
+  in-range : (answer : Outcome) (new : List ℕ) → TableInRange actions rows entries → Gives (tableText mode actions rows entries) old answer new
       → PrintsTable mode actions rows entries old answer new
 
-pub data PrintsRefusal (number spot : ℕ) (old : List ℕ) : Printed → List ℕ → Type 0 where
-  out-of-range : (RefusalInRange number spot → ⊥) → PrintsRefusal number spot old OutOfRange old
-  in-range : (answer : Printed) (new : List ℕ) → RefusalInRange number spot → Gives (refusalText number spot) old answer new
+pub data PrintsRefusal (number spot : ℕ) (old : List ℕ) : Outcome → List ℕ → Type 0 where
+  out-of-range : (RefusalInRange number spot → ⊥) → PrintsRefusal number spot old (refused 10) old
+  in-range : (answer : Outcome) (new : List ℕ) → RefusalInRange number spot → Gives (refusalText number spot) old answer new
       → PrintsRefusal number spot old answer new
 
 -- how many bytes an answer says were written

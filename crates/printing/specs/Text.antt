@@ -1,4 +1,4 @@
--- The text of a table and of a refusal (document 01, 'A small roastery'), as bytes: words and numbers are separated by single blanks, and
+-- The text of a table and of a refusal (docs/FORMATS.md, "The printed text"), as bytes: words and numbers are separated by single blanks, and
 -- each line ends with a newline. Assumes nothing.
 use mathlib.Core.Bool.{cond}
 use mathlib.Core.List.{List, [], _∷_, _++_}

@@ -6,10 +6,11 @@ mod writer;
 
 pub use texts::print_refusal;
 pub use texts::print_table;
+pub use texts::room;
 pub use texts::written;
 
 // What printing answers: how many bytes were written; or, with nothing written, that a value is out of its range, or that the text area is too
-// short.
+// short. specs/Printing.antt gives the number of each refusal.
 pub enum Printed {
     Written(usize),
     OutOfRange,

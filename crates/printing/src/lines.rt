@@ -34,7 +34,7 @@ pub fn put_counts(first: usize, second: usize, text: &mut [u8], at: usize) -> us
     requires { ⌜ first < 1000 ⌝ }
     requires { ⌜ second < 1000 ⌝ }
     requires { ⌜ at + 9 ≤ length (now text) ⌝ }
-    ensures { λ r. ⌜ Appends (now (text .entry)) at (counts first second) (now (text .exit)) r ⌝ }
+    ensures { λ r. ⌜ Appends (now (text .entry)) at (counts first second) (now (text .exit)) r × (r ≤ at + 9) ⌝ }
 {
     let next = put_spaced(first, text, at);
     let last = put_spaced(second, text, next);

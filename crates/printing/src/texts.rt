@@ -10,10 +10,10 @@ ghost use Prim.Native.Nat.{_*_, _<_};
 ghost use lib.ListN.{length, take};
 ghost use Rattle.printing.specs.Text.{tableText, refusalText};
 ghost use Rattle.printing.specs.Writing.{Appends};
-ghost use Rattle.printing.specs.Printing.{TableInRange, Gives, PrintsTable, PrintsRefusal, countOf};
+ghost use Rattle.printing.specs.Printing.{outcomeOf, TableInRange, Gives, PrintsTable, PrintsRefusal, countOf};
 
 // Room for the largest text: 64 rows of 16 entries, and the first line.
-fn room() -> [u8; 4352]
+pub fn room() -> [u8; 4352]
     ensures { λ r. ⌜ length r ≡ 4352 ⌝ }
 {
     [0u8; 4352]
@@ -21,7 +21,7 @@ fn room() -> [u8; 4352]
 
 // Copies a text to the front of the area where it fits.
 fn give(written: &[u8], text: &mut [u8]) -> Printed
-    ensures { λ r. ⌜ Gives (now (written .entry)) (now (text .entry)) r (now (text .exit)) ⌝ }
+    ensures { λ r. ⌜ Gives (now (written .entry)) (now (text .entry)) (outcomeOf r) (now (text .exit)) ⌝ }
 {
     if text.len() < written.len() {
         return Printed::ShortText;
@@ -58,7 +58,7 @@ pub fn print_table(
     entries: &[u8],
     text: &mut [u8],
 ) -> Printed
-    ensures { λ r. ⌜ PrintsTable mode actions rows (now (entries .entry)) (now (text .entry)) r (now (text .exit)) ⌝ }
+    ensures { λ r. ⌜ PrintsTable mode actions rows (now (entries .entry)) (now (text .entry)) (outcomeOf r) (now (text .exit)) ⌝ }
 {
     if actions < 1 {
         return Printed::OutOfRange;
@@ -82,7 +82,7 @@ pub fn print_table(
 
 // Writes the text of a refusal to the front of `text`. Both numbers are below 1,000.
 pub fn print_refusal(number: usize, spot: usize, text: &mut [u8]) -> Printed
-    ensures { λ r. ⌜ PrintsRefusal number spot (now (text .entry)) r (now (text .exit)) ⌝ }
+    ensures { λ r. ⌜ PrintsRefusal number spot (now (text .entry)) (outcomeOf r) (now (text .exit)) ⌝ }
 {
     if 999 < number {
         return Printed::OutOfRange;

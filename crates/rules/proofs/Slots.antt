@@ -1,4 +1,4 @@
--- The rows in a slot of the work area are a machine that is closed and can be read, a rule over such slots fits, and its machine depends
+-- The rows in a slot of the work area can be read, a rule over such slots fits, and its machine depends
 -- on the slots of its parts alone.
 -- Assumes nothing.
 use mathlib.Core.Path.{_≡_, ap}
@@ -8,19 +8,14 @@ use native.Mathlib.Omega.{arith}
 use lib.ListN.{getD}
 use Rattle.automaton.specs.Machine.{transition}
 use Rattle.policy.specs.Parts.{AllParts}
-use Rattle.policy.specs.Closed.{Closed}
 use Rattle.rules.specs.Codes.{CountFits, FitRule}
 use Rattle.rules.specs.Rules.{slotAt, partAt, ruleOver, machineRule, Readable}
 use Rattle.rules.specs.declared.NodeRule.{NodeRule}
-use Rattle.rules.proofs.Reading.{entry-below}
 use Rattle.rules.proofs.RuleParts.{all-map, all-onto, on-parts-agree, count-on}
 
 -- a slot whose entries are rows below n or trips
-module _ (work : List ℕ) (i n : ℕ) (pos : 0 < n) (few : n ≤ 64)
+module _ (work : List ℕ) (i n : ℕ) (few : n ≤ 64)
     (entries : (k : ℕ) → (getD (slotAt work i) k 255 ≡ 255 → ⊥) → getD (slotAt work i) k 255 < n) where
-  pub slot-closed : (actions : ℕ) → Closed n (partAt actions work i)
-  slot-closed actions = record { pos = pos; few = few; stay = λ r a h. entry-below n (getD (slotAt work i) (r * actions + a) 255) (entries (r * actions + a)) }
-
   pub slot-readable : i < 64 → Readable work i
   slot-readable h = record { node = h; entries = λ k r. let g = entries k r in omega arith }
 

@@ -5,6 +5,7 @@ use crate::parts::entry_at;
 use crate::parts::part_move;
 use crate::sets::move_copies;
 ghost use mathlib.Core.Path.{_≡_};
+ghost use mathlib.Core.Bool.{cond};
 ghost use Prim.Native.Nat.{_+_, _≤_, _<_};
 ghost use lib.ListN.{length};
 ghost use Rattle.trace.specs.Trace.{go, after};
@@ -123,35 +124,39 @@ fn until_step(work: &[u8], actions: usize, i: u8, j: u8, value: u64, action: usi
     }
 }
 
-// A part's move, its row under a mark.
-fn marked_move(work: &[u8], actions: usize, i: u8, mark: u64, row: u64, action: usize) -> ValueMove
+// A part's row under a mark: behind the action, where the part reads it.
+fn marked_move(
+    work: &[u8],
+    actions: usize,
+    i: u8,
+    mark: u64,
+    row: u64,
+    reads: bool,
+    action: usize,
+) -> ValueMove
     requires { ⌜ (65536 ≤ length (now work)) × Readable (now work) i × (actions ≤ 16) × (action < actions) × (mark ≤ 131072) × (row < 256) ⌝ }
-    ensures { λ r. ⌜ moveOf r ≡ goWith (λ q. mark + q) (partAt actions (now (work .entry)) i row action) ⌝ }
+    ensures { λ r. ⌜ moveOf r ≡ cond reads (goWith (λ q. mark + q) (partAt actions (now (work .entry)) i row action)) (go (mark + row)) ⌝ }
 {
-    let ValueMove::Go(r) = row_move(work, actions, i, row, action) else {
-        return ValueMove::Trip;
-    };
-    ValueMove::Go(mark + r)
+    if reads {
+        let ValueMove::Go(r) = row_move(work, actions, i, row, action) else {
+            return ValueMove::Trip;
+        };
+        return ValueMove::Go(mark + r);
+    }
+    ValueMove::Go(mark + row)
 }
 
-// A part begins behind the action that is read: its first row, under a mark.
-fn begun(mark: u64) -> ValueMove
-    ensures { λ r. ⌜ moveOf r ≡ go mark ⌝ }
-{
-    ValueMove::Go(mark)
-}
-
-// b starts on the action behind the one that fulfils a.
+// b starts on the action behind the one that fulfils a, and does not read that one.
 fn then_step(work: &[u8], actions: usize, i: u8, j: u8, value: u64, action: usize) -> ValueMove
     requires { ⌜ Steppable (now work) (NodeRule.Then i j) × (actions ≤ 16) × (action < actions) ⌝ }
     ensures { λ r. ⌜ moveOf r ≡ codeStep actions (now (work .entry)) (NodeRule.Then i j) value action ⌝ }
 {
     let row = value % 256;
     if value / 256 % 256 != 0 {
-        return marked_move(work, actions, j, 256, row, action);
+        return marked_move(work, actions, j, 256, row, true, action);
     }
     match row_move(work, actions, i, row, action) {
-        ValueMove::Trip => begun(256),
+        ValueMove::Trip => marked_move(work, actions, j, 256, 0, false, action),
         ValueMove::Go(q) => ValueMove::Go(q),
     }
 }
@@ -172,17 +177,17 @@ fn timed_step(
     let low = value % 256;
     let phase = value / 65536 % 256;
     if phase == 1 {
-        return marked_move(work, actions, j, 65536, low, action);
+        return marked_move(work, actions, j, 65536, low, true, action);
     }
     if phase != 0 {
-        return marked_move(work, actions, l, 131072, low, action);
+        return marked_move(work, actions, l, 131072, low, true, action);
     }
     match row_move(work, actions, i, value / 256 % 256, action) {
-        ValueMove::Trip => begun(65536),
+        ValueMove::Trip => marked_move(work, actions, j, 65536, 0, false, action),
         ValueMove::Go(q) => {
             let sofar = low + 1;
             if k as u64 <= sofar {
-                begun(131072)
+                marked_move(work, actions, l, 131072, 0, false, action)
             } else {
                 ValueMove::Go(q * 256 + sofar)
             }

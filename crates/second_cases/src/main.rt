@@ -16,13 +16,6 @@ fn room_for_counts() -> [u64; 50]
     [0u64; 50]
 }
 
-// Room for the name of a record, and for the byte that says which area is short.
-fn room_for_name() -> [u8; 64]
-    ensures { λ r. ⌜ 64 ≡ length r ⌝ }
-{
-    [0u8; 64]
-}
-
 // Room for a table and more. Each byte is 170.
 fn room_for_table() -> [u8; 1100]
     ensures { λ r. ⌜ 1100 ≡ length r ⌝ }
@@ -38,7 +31,7 @@ fn room_for_values() -> [u64; 1024]
 
 // Compiles a sheet with work areas of its own. Where `short` is 1, 2 or 3 the area of the table, of the work or of the values is lent shorter by
 // one than is asked for.
-fn compile(short: usize, sheet: &[u8], out: &mut [u8]) -> u32 {
+fn compile(short: usize, sheet: &[u8], out: &mut [u8]) -> u64 {
     let mut work = io::large_buffer();
     let mut values = room_for_values();
     let o = corpus::lent(short == 1, 1031, out.len());
@@ -61,7 +54,7 @@ fn written(out: &[u8], table: &[u8]) -> bool {
 }
 
 // Whether the loader accepts the table, if there is one, with the type, actions and rows that the compiler answered.
-fn loads(answer: u32, table: &[u8]) -> bool {
+fn loads(answer: u64, table: &[u8]) -> bool {
     (table.len() == 0) | (lemondarts::lemondarts_load(table) == answer)
 }
 
@@ -91,8 +84,8 @@ fn same_verdicts(sheet: &[u8], mode: usize, table: &[u8], counts: &mut [u64]) ->
 
 // Whether the second implementation agrees: with a refusal 1 to 7 and its spot, or with the table's type and verdicts.
 fn second_agrees(answer: usize, sheet: &[u8], table: &[u8], counts: &mut [u64]) -> bool {
-    let number = answer % 256;
-    let value = answer / 256 % 256;
+    let number = answer % 65536;
+    let value = answer / 65536 % 65536;
     if number == 14 {
         return true;
     }
@@ -114,20 +107,14 @@ fn agrees(short: usize, sheet: &[u8], expected: &[u8], counts: &mut [u64]) -> bo
     let table = &expected[4..];
     let mut out = room_for_table();
     let answer = compile(short, sheet, &mut out);
-    corpus::add(counts, (answer % 256) as usize, 1);
+    corpus::add(counts, (answer % 65536) as usize, 1);
     let same = (answer as usize == corpus::answer_at(expected)) & written(&out, table);
     same & loads(answer, table) & second_agrees(answer as usize, sheet, table, counts)
 }
 
-// Whether a record was all there, and whether all agree on it.
-struct Ran {
-    whole: bool,
-    agreed: bool,
-}
-
 // Reads the rest of a record, behind its name, and compares.
-fn run_sheet(counts: &mut [u64]) -> Ran {
-    let mut flag = room_for_name();
+fn run_sheet(counts: &mut [u64]) -> corpus::Ran {
+    let mut flag = corpus::room_for_name();
     let mut sheet = io::large_buffer();
     let mut expected = room_for_table();
     let flagged = corpus::read_block(&mut flag);
@@ -137,44 +124,30 @@ fn run_sheet(counts: &mut [u64]) -> Ran {
     let e = answered.number;
     if flagged.whole & given.whole & answered.whole {
         let agreed = agrees(corpus::at(&flag, 0), &sheet[0..s], &expected[0..e], counts);
-        return Ran {
+        return corpus::Ran {
             whole: true,
             agreed,
         };
     }
-    Ran {
-        whole: false,
-        agreed: true,
-    }
+    corpus::cut_off()
 }
 
 // Reads a record and compares. Answers whether all of it was there.
 fn run_record(counts: &mut [u64]) -> bool {
-    let mut name = room_for_name();
+    let mut name = corpus::room_for_name();
     let named = corpus::read_block(&mut name);
     let n = named.number;
     let ran = run_sheet(counts);
-    corpus::add(counts, DISAGREEMENTS, corpus::note(ran.agreed, &name[0..n]));
-    named.whole & ran.whole
+    corpus::settle(counts, DISAGREEMENTS, named.whole, ran, &name[0..n])
 }
 
-// Runs the records, and answers how many there were.
-fn run(records: usize, counts: &mut [u64]) -> usize {
-    let mut i = 0;
-    while i < records {
-        if run_record(counts) {
-            i += 1;
-        } else {
-            return i;
-        }
+// Runs the records.
+fn run(counts: &mut [u64]) -> corpus::Progress {
+    let mut at = corpus::begin();
+    while 0 < at.left {
+        at = corpus::behind(at, run_record(counts));
     }
-    i
-}
-
-// Writes a word and a count.
-fn show_count(word: &[u8], count: u64) {
-    io::write_all(1, word);
-    io::print_decimal(1, count);
+    at
 }
 
 // Writes the counts.
@@ -182,23 +155,19 @@ fn report(done: usize, counts: &[u64]) {
     if counts.len() < 50 {
         return;
     }
-    show_count(b"sheets ", done as u64);
+    corpus::show_count(b"sheets ", done as u64);
     io::write_all(1, b"\nanswers");
     corpus::show(&counts[0..16]);
     io::write_all(1, b"\nkinds");
     corpus::show(&counts[16..48]);
-    show_count(b"\nsequences ", counts[48]);
-    show_count(b"\ndisagreements ", counts[49]);
+    corpus::show_count(b"\nsequences ", counts[48]);
+    corpus::show_count(b"\ndisagreements ", counts[49]);
     io::write_all(1, b"\n");
 }
 
-// A corpus that is cut off, that has a block longer than its room, or that goes on behind its last record is reported.
 fn main() {
     let mut counts = room_for_counts();
-    let records = corpus::read_number();
-    let done = run(records.number, &mut counts);
-    report(done, &counts);
-    if !(records.whole & (done == records.number) & (corpus::bytes_left() == 0)) {
-        io::write_all(1, b"the corpus is damaged behind these\n");
-    }
+    let at = run(&mut counts);
+    report(at.done, &counts);
+    corpus::end(at);
 }

@@ -16,17 +16,18 @@ use Rattle.sheet.specs.Judge.{CountedAs, judgeBy}
 
 -- what the code of typing says of its outcome
 module _ {r : TypedNodes} where
-  pub from-mistyped : (t : Typings) {f : Fault} → r ≡ typedNodes t → r .judged ≡ Faulty f → t ≡ mistyped f
-  from-mistyped (mistyped g) is e = let h : r .judged ≡ Faulty g = rw is in cc
+  pub from-mistyped : (t : Typings) {f : Fault} → r ≡ typedNodes t → r .judged ≡ Faulty f → t ≡ mistyped f (r .types)
+  from-mistyped (mistyped g types) is e = let h : r .judged ≡ Faulty g = rw is in let k : r .types ≡ types = rw is in cc
   from-mistyped (typed types) is e = absurd (let h : r .judged ≡ Sound = rw is in let z : _≡_ {A = ℕ} 0 1 = cc in omega arith)
 
   pub from-typed : (t : Typings) → r ≡ typedNodes t → r .judged ≡ Sound → t ≡ typed (r .types)
-  from-typed (mistyped g) is e = absurd (let h : r .judged ≡ Faulty g = rw is in let z : _≡_ {A = ℕ} 0 1 = cc in omega arith)
+  from-typed (mistyped g types) is e = absurd (let h : r .judged ≡ Faulty g = rw is in let z : _≡_ {A = ℕ} 0 1 = cc in omega arith)
   from-typed (typed types) is e = rw is
 
 -- the first k nodes of a sheet were read
 module _ (sheet : Sheet) (k : ℕ) where
-  pub judge-mistyped : (j : Judged) {f : Fault} → CountedAs j k (sheet .count) → typeNodes (sheet .nodes) k ≡ mistyped f → judgeBy j sheet k ≡ faulty f
+  pub judge-mistyped : (j : Judged) {f : Fault} {types : List TypedNode} → CountedAs j k (sheet .count) → typeNodes (sheet .nodes) k ≡ mistyped f types
+      → judgeBy j sheet k ≡ faulty f
   judge-mistyped Sound h e = rw (← h, e)
   judge-mistyped (Faulty g) h e = rw e
 

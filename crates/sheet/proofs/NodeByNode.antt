@@ -1,4 +1,4 @@
--- The order of document 01, 'node by node 4, 5, 6, 7': each node is judged by all four checks before the next. Judging in two passes, 4 and 5 of
+-- The order of docs/FORMATS.md, 'node by node 4, 5, 6, 7': each node is judged by all four checks before the next. Judging in two passes, 4 and 5 of
 -- every node first, gives the same. Assumes nothing.
 use mathlib.Core.Path.{_≡_, refl, sym, ap, _∙_}
 use mathlib.Core.List.{List}
@@ -8,7 +8,7 @@ use lib.ListN.{length, set}
 use lib.Seq.{getD-set-same, getD-set-other}
 use Rattle.syntax.specs.Nodes.{nodeAt}
 use Rattle.syntax.specs.Types.{typeAt, typeNode}
-use Rattle.syntax.specs.Typed.{Typings, mistyped, typed, noTypes, typeNext, unlessMistyped, typeNodes, Judgement, faulty, judgeTyped}
+use Rattle.syntax.specs.Typed.{Typings, mistyped, typed, noTypes, typeNext, unlessMistyped, typeNodes, typedNodes, Judgement, faulty, judgeTyped}
 use Rattle.syntax.specs.declared.Fault.{Fault}
 use Rattle.syntax.specs.declared.Fault.the-variants.{UnknownKindAt, WrongFieldAt}
 use Rattle.syntax.specs.declared.Judged.{Judged}
@@ -33,8 +33,8 @@ use Rattle.sheet.proofs.ReadNodes.{counted, nodes-listed}
 -- Node n, by 4 and 5 and then by 6 and 7, the nodes before it having `types`.
 abbrev pub judgeNode : ℕ → List TypedNode → NodeRead → Typings
 judgeNode n types (Known (Right node)) = typeNext n types (typeNode node (typeAt types))
-judgeNode n types (Known Wrong) = mistyped (WrongFieldAt n)
-judgeNode n types UnknownKind = mistyped (UnknownKindAt n)
+judgeNode n types (Known Wrong) = mistyped (WrongFieldAt n) types
+judgeNode n types UnknownKind = mistyped (UnknownKindAt n) types
 
 abbrev pub judgeNodes : List ℕ → ℕ → Typings
 judgeNodes bytes zero = typed noTypes
@@ -70,10 +70,10 @@ module _ (nodes : List ListedNode) (n : ℕ) (node : Node) (long : n < length no
 -- the fault of the node behind comes after those of the types
 abbrev then : Judged → Typings → Typings
 then Sound t = t
-then (Faulty f) t = mistyped (firstFault t f)
+then (Faulty f) t = mistyped (firstFault t f) (typedNodes t .types)
 
-stops : (t : Typings) (f : Fault) → unlessMistyped t (λ types. mistyped f) ≡ mistyped (firstFault t f)
-stops (mistyped g) f = refl
+stops : (t : Typings) (f : Fault) → unlessMistyped t (λ types. mistyped f types) ≡ mistyped (firstFault t f) (typedNodes t .types)
+stops (mistyped g types) f = refl
 stops (typed types) f = refl
 
 -- one node more

@@ -13,16 +13,14 @@ use Rattle.base.proofs.Words.{word-back}
 use Rattle.syntax.specs.Nodes.{nodeOf, propositionsOf}
 use Rattle.syntax.specs.Typed.{judgeSheet}
 use Rattle.syntax.specs.declared.Sheet.{Sheet}
-use Rattle.sheet.specs.Layout.{actionCount, nodeCount, actionsAt, nodesAt, total, entryOf, field, layoutOf, WellLaid}
+use Rattle.sheet.specs.Layout.{actionCount, nodeCount, nodesAt, total, entryOf, field, WellLaid}
 use Rattle.sheet.specs.Reading.{nodeRead, allRead, readNodes, readActions}
 use Rattle.sheet.specs.ReadFrom.{ReadFrom}
 use Rattle.sheet.specs.Judge.{judge}
 use Rattle.sheet.specs.Writing.{nodeBytes, headerBytes, actionBytes, nodesBytes, sheetBytes, Writable}
-use Rattle.sheet.specs.declared.Layout.the-variants.{Laid}
 use Rattle.sheet.specs.declared.NodeFields.the-variants.{Right}
 use Rattle.sheet.specs.declared.NodeRead.the-variants.{Known}
-use Rattle.sheet.proofs.Header.{laid}
-use Rattle.sheet.proofs.ReadFrom.{formed-from, actions-from, nodes-from, judge-from}
+use Rattle.sheet.proofs.ReadFrom.{actions-from, nodes-from, judge-from}
 use Rattle.sheet.proofs.Written.{length-front, length-sheet}
 use Rattle.sheet.proofs.NodeBack.{node-back}
 
@@ -99,10 +97,7 @@ module _ (sheet : Sheet) (w : Writable sheet) where
   pub held : ReadFrom bytes sheet
   held = record { laid = well-laid; actions = sym action-count; count = sym node-count; propositions = entry-back; nodes = node-read; behind = w .behind }
 
-  -- Its parts: where the areas are, the action list, the nodes.
-  pub layout-back : layoutOf bytes ≡ Laid (sheet .actions) (sheet .count) 10 (10 + 2 * sheet .actions)
-  layout-back = rw (laid bytes well-laid, action-count, node-count, nodes-at)
-
+  -- Its parts: the action list, the nodes.
   pub actions-back : readActions bytes (sheet .actions) ≡ sheet .propositions
   actions-back = actions-from bytes held
 
@@ -112,10 +107,3 @@ module _ (sheet : Sheet) (w : Writable sheet) where
   -- Reading back what was written gives the same sheet, and so the same judgement.
   pub read-back : judge bytes ≡ judgeSheet sheet
   read-back = judge-from bytes held
-
--- What is read is as writing asks it.
-pub read-writable : (bytes : List ℕ) {sheet : Sheet} → ((i : ℕ) → getD bytes i 0 < 256) → ReadFrom bytes sheet → Writable sheet
-read-writable bytes {sheet} small r = record { formed = formed-from bytes r; narrow = narrow; behind = r .behind }
-  where
-    narrow : (a : ℕ) → a < sheet .actions → propositionsOf sheet a < 65536
-    narrow a h = omega (arith, r .propositions a h, small (actionsAt bytes + 2 * a), small (actionsAt bytes + 2 * a + 1))

@@ -42,7 +42,7 @@ same-last s t Formula e = not-sound e
 same-last s t (Policy m k) e = cc
 
 same-sheet : (s : Sheet) (t : Typings) {m : Mode} {sheet : Sheet} {types : List TypedNode} → judgeTyped s t ≡ sound m sheet types → s ≡ sheet
-same-sheet s (mistyped f) e = not-sound e
+same-sheet s (mistyped f t) e = not-sound e
 same-sheet s (typed t) e = same-last s t (typeAt t (s .count - 1)) e
 
 -- and comes of nodes that are all read

@@ -42,7 +42,7 @@ number-small (BoundAt n) = omega arith
 
 -- the first n nodes have their faults below n: of types
 LowTypings : ℕ → Typings → Type 0
-LowTypings k (mistyped f) = spotOf f < k
+LowTypings k (mistyped f types) = spotOf f < k
 LowTypings k (typed types) = Unit {0}
 
 low-type : (n : ℕ) (types : List TypedNode) (t : TypeFound) → LowTypings (suc n) (typeNext n types t)
@@ -53,7 +53,7 @@ low-type n types TooLong = omega arith
 
 low-then : (n : ℕ) (t : Typings) (next : List TypedNode → Typings) → LowTypings n t → ((types : List TypedNode) → LowTypings (suc n) (next types)) → LowTypings (suc n) (unlessMistyped t next)
 unfolding LowTypings
-low-then n (mistyped f) next l g = omega arith
+low-then n (mistyped f types) next l g = omega arith
 low-then n (typed types) next l g = g types
 
 low-types : (nodes : List ListedNode) (n : ℕ) → LowTypings n (typeNodes nodes n)
@@ -102,12 +102,12 @@ low-last sheet types (Policy m k) h g = tt
 
 low-typed : (sheet : Sheet) (t : Typings) → 1 ≤ sheet .count → sheet .count ≤ 64 → LowTypings (sheet .count) t → Low (judgeTyped sheet t)
 unfolding Low LowTypings
-low-typed sheet (mistyped f) h g l = omega arith
+low-typed sheet (mistyped f types) h g l = omega arith
 low-typed sheet (typed types) h g l = low-last sheet types (typeAt types (sheet .count - 1)) h g
 
 low-first : (k m : ℕ) (t : Typings) (f : Fault) → k ≤ m → LowTypings k t → spotOf f < m → spotOf (firstFault t f) < m
 unfolding LowTypings
-low-first k m (mistyped g) f h l s = omega arith
+low-first k m (mistyped g types) f h l s = omega arith
 low-first k m (typed types) f h l s = s
 
 low-by : (sheet : Sheet) (j : Judged) (before : ℕ) → 1 ≤ sheet .count → sheet .count ≤ 64 → LowJudged (sheet .count) j → before ≤ sheet .count → Low (judgeBy j sheet before)

@@ -1,4 +1,4 @@
--- A rule sheet's bytes (document 01, "The rule sheet"): the header, the two areas, and checks 1 to 3.
+-- A rule sheet's bytes (docs/FORMATS.md, "The rule sheet"): the header, the two areas, and checks 1 to 3.
 -- Assumes nothing.
 use mathlib.Core.Path.{_≡_}
 use mathlib.Core.Bool.{Bool, cond, _&&_, _||_}

@@ -1,4 +1,4 @@
--- The sheet that the unit itself writes (document 01, "The rule sheet"): the action list directly behind the header, the nodes behind that, and
+-- The sheet that the unit itself writes (docs/FORMATS.md, "The rule sheet"): the action list directly behind the header, the nodes behind that, and
 -- nothing more.
 -- Assumes nothing.
 use mathlib.Core.List.{List, [], _∷_, _++_}

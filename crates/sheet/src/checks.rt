@@ -4,8 +4,6 @@ use crate::Layout;
 use crate::NodesRead;
 use crate::SheetFound;
 use crate::layouts::find_layout;
-use crate::reading::blank_actions;
-use crate::reading::blank_nodes;
 use crate::reading::read_actions;
 use crate::reading::read_nodes;
 use syntax::Fault;
@@ -13,41 +11,29 @@ use syntax::Judged;
 use syntax::NodeType;
 use syntax::Sheet;
 use syntax::TypedNode;
-use syntax::blank_types;
 use syntax::type_at;
 use syntax::type_nodes;
 ghost use mathlib.Core.Path.{_≡_};
 ghost use Prim.Native.Nat.{_-_, _≤_};
 ghost use Rattle.syntax.specs.Types.{typeAt};
-ghost use Rattle.syntax.specs.Typed.{faulty, judgeLast};
-ghost use Rattle.sheet.specs.Judge.{judgeRead, judgedSheet, ReadWithin};
-
-// A sheet with a fault.
-fn refused(fault: Fault) -> JudgedSheet
-    ensures { λ r. ⌜ r ≡ judgedSheet (faulty fault) ⌝ }
-{
-    let propositions = blank_actions();
-    let nodes = blank_nodes();
-    JudgedSheet {
-        found: SheetFound::NotSound(fault),
-        sheet: Sheet {
-            actions: 0,
-            propositions,
-            count: 0,
-            nodes,
-        },
-        types: blank_types(),
-    }
-}
+ghost use Rattle.syntax.specs.Typed.{noTypes, faulty, judgeLast};
+ghost use Rattle.sheet.specs.Layout.{layoutOf};
+ghost use Rattle.sheet.specs.Reading.{readActions, readNodes};
+ghost use Rattle.sheet.specs.Judge.{judgedSheet, judgedRead, sheetIn, judged, ReadWithin};
+ghost use Rattle.sheet.specs.declared.Layout.the-variants.{Laid, Misplaced};
 
 // The last node's 6.
 fn judge_last(sheet: Sheet, types: [TypedNode; 64]) -> JudgedSheet
     requires { ⌜ 1 ≤ sheet .count ⌝ }
-    ensures { λ r. ⌜ r ≡ judgedSheet (judgeLast sheet types (typeAt types (sheet .count - 1))) ⌝ }
+    ensures { λ r. ⌜ r ≡ judgedSheet sheet types (judgeLast sheet types (typeAt types (sheet .count - 1))) ⌝ }
 {
     let last = sheet.count - 1;
     match type_at(types, last) {
-        NodeType::Formula => refused(Fault::WrongTypeAt(last)),
+        NodeType::Formula => JudgedSheet {
+            found: SheetFound::NotSound(Fault::WrongTypeAt(last)),
+            sheet,
+            types,
+        },
         NodeType::Policy(mode, _) => JudgedSheet {
             found: SheetFound::Policy(mode),
             sheet,
@@ -59,49 +45,88 @@ fn judge_last(sheet: Sheet, types: [TypedNode; 64]) -> JudgedSheet
 // Checks 6 and 7 of the nodes that were read, then the fault of the one behind them, or the last node's 6.
 fn judge_read(actions: usize, propositions: [u16; 16], count: usize, read: NodesRead) -> JudgedSheet
     requires { ⌜ ReadWithin count read ⌝ }
-    ensures { λ r. ⌜ r ≡ judgedSheet (judgeRead actions propositions count read) ⌝ }
+    ensures { λ r. ⌜ r ≡ judgedRead actions propositions count read ⌝ }
 {
     let nodes = read.nodes;
     let typing = type_nodes(nodes, read.count);
+    let types = typing.types;
+    let sheet = Sheet {
+        actions,
+        propositions,
+        count,
+        nodes,
+    };
     let typed = typing.judged;
     if let Judged::Faulty(fault) = typed {
-        return refused(fault);
+        return JudgedSheet {
+            found: SheetFound::NotSound(fault),
+            sheet,
+            types,
+        };
     }
     let judged = read.judged;
     if let Judged::Faulty(fault) = judged {
-        return refused(fault);
+        return JudgedSheet {
+            found: SheetFound::NotSound(fault),
+            sheet,
+            types,
+        };
     }
-    let types = typing.types;
-    judge_last(
-        Sheet {
-            actions,
-            propositions,
-            count,
-            nodes,
-        },
-        types,
+    judge_last(sheet, types)
+}
+
+// Checks 4 to 7 of a sheet whose areas are found.
+fn judge_laid(
+    bytes: &[u8],
+    actions: usize,
+    nodes: usize,
+    actions_at: usize,
+    nodes_at: usize,
+) -> JudgedSheet
+    requires { ⌜ layoutOf (now bytes) ≡ Laid actions nodes «actions_at» «nodes_at» ⌝ }
+    ensures { λ r. ⌜ r ≡ judgedRead actions (readActions (now (bytes .entry)) actions) nodes (readNodes (now (bytes .entry)) nodes) ⌝ }
+{
+    let propositions = read_actions(bytes, actions_at, actions);
+    judge_read(
+        actions,
+        propositions,
+        nodes,
+        read_nodes(bytes, nodes_at, nodes),
     )
 }
 
-// The first fault of any bytes, or none, with the sheet and the types of its nodes.
+// A sheet whose areas are not found: nothing is read of it. (No blank arrays: the compiled code would copy every array one by one.)
+fn unread(bytes: &[u8], fault: Fault) -> JudgedSheet
+    ensures { λ r. ⌜ r ≡ judgedSheet (sheetIn (now (bytes .entry)) (Misplaced fault)) noTypes (faulty fault) ⌝ }
+{
+    let propositions = read_actions(bytes, 0, 0);
+    let read = read_nodes(bytes, 0, 0);
+    let nodes = read.nodes;
+    let typing = type_nodes(nodes, 0);
+    let types = typing.types;
+    JudgedSheet {
+        found: SheetFound::NotSound(fault),
+        sheet: Sheet {
+            actions: 0,
+            propositions,
+            count: 0,
+            nodes,
+        },
+        types,
+    }
+}
+
+// The first fault of any bytes, or none, with the sheet and the types of its nodes as far as they were found.
 pub fn judge(bytes: &[u8]) -> JudgedSheet
-    ensures { λ r. ⌜ r ≡ judgedSheet (Rattle.sheet.specs.Judge.judge (now (bytes .entry))) ⌝ }
+    ensures { λ r. ⌜ r ≡ judged (now (bytes .entry)) ⌝ }
 {
     match find_layout(bytes) {
-        Layout::Misplaced(fault) => refused(fault),
+        Layout::Misplaced(fault) => unread(bytes, fault),
         Layout::Laid {
             actions,
             nodes,
             actions_at,
             nodes_at,
-        } => {
-            let propositions = read_actions(bytes, actions_at, actions);
-            judge_read(
-                actions,
-                propositions,
-                nodes,
-                read_nodes(bytes, nodes_at, nodes),
-            )
-        }
+        } => judge_laid(bytes, actions, nodes, actions_at, nodes_at),
     }
 }

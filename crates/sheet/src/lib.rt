@@ -56,7 +56,7 @@ pub enum SheetFound {
     NotSound(Fault),
 }
 
-// The same with the sheet and the types of its nodes; beside a fault, a blank sheet and no types.
+// The same with the sheet and the types of its nodes; beside a fault, those before it.
 pub struct JudgedSheet {
     pub found: SheetFound,
     pub sheet: Sheet,

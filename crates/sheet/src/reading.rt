@@ -9,31 +9,17 @@ use syntax::Judged;
 use syntax::ListedNode;
 use syntax::Node;
 ghost use mathlib.Core.Path.{_≡_};
-ghost use Rattle.syntax.specs.Nodes.{noNodes, noPropositions};
+ghost use Prim.Native.Nat.{_<_};
 ghost use Rattle.sheet.specs.Layout.{actionsAt, nodesAt, Inside};
 ghost use Rattle.sheet.specs.Reading.{readNodes, readActions};
-
-// No nodes yet.
-pub fn blank_nodes() -> [ListedNode; 64]
-    ensures { λ r. ⌜ r ≡ noNodes ⌝ }
-{
-    [ListedNode { node: Node::True }; 64]
-}
-
-// No actions yet.
-pub fn blank_actions() -> [u16; 16]
-    ensures { λ r. ⌜ r ≡ noPropositions ⌝ }
-{
-    [0u16; 16]
-}
 
 // The propositions of each action. The list stands at `from`.
 pub fn read_actions(bytes: &[u8], from: usize, actions: usize) -> [u16; 16]
     requires { ⌜ Inside (now bytes) from 2 actions 16 ⌝ }
-    requires { ⌜ from ≡ actionsAt (now bytes) ⌝ }
+    requires { ⌜ (0 < actions → from ≡ actionsAt (now bytes)) ⌝ }
     ensures { λ r. ⌜ r ≡ readActions (now (bytes .entry)) actions ⌝ }
 {
-    let mut propositions = blank_actions();
+    let mut propositions = [0u16; 16];
     let mut a = 0;
     while a < actions {
         propositions[a] = word(bytes, from + 2 * a) as u16;
@@ -45,10 +31,10 @@ pub fn read_actions(bytes: &[u8], from: usize, actions: usize) -> [u16; 16]
 // The nodes one by one, up to the first that fails check 4 or 5. They stand at `from`.
 pub fn read_nodes(bytes: &[u8], from: usize, count: usize) -> NodesRead
     requires { ⌜ Inside (now bytes) from 5 count 64 ⌝ }
-    requires { ⌜ from ≡ nodesAt (now bytes) ⌝ }
+    requires { ⌜ (0 < count → from ≡ nodesAt (now bytes)) ⌝ }
     ensures { λ r. ⌜ r ≡ readNodes (now (bytes .entry)) count ⌝ }
 {
-    let mut nodes = blank_nodes();
+    let mut nodes = [ListedNode { node: Node::True }; 64];
     let mut n = 0;
     while n < count {
         let read = read_node(bytes, from + 5 * n, n);

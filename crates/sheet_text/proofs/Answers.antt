@@ -5,16 +5,15 @@ use mathlib.Core.List.{List}
 use Prim.Native.Nat.{ℕ}
 use Rattle.compiler.specs.Calling.{answerOf}
 use Rattle.compiler.specs.declared.Compiled.{Compiled}
-use Rattle.printing.specs.declared.Printed.{Printed}
-use Rattle.printing.specs.Printing.{PrintsRefusal}
+use Rattle.printing.specs.Printing.{Outcome, PrintsRefusal}
 use Rattle.sheet_text.specs.SheetText.{PrintsAnswer}
 
 -- an answer that is known to be one of its cases
-pub answered : {entries old new : List ℕ} {printed : Printed} {x y : Compiled} → x ≡ y → PrintsAnswer entries old (answerOf y) printed new
+pub answered : {entries old new : List ℕ} {printed : Outcome} {x y : Compiled} → x ≡ y → PrintsAnswer entries old (answerOf y) printed new
     → PrintsAnswer entries old (answerOf x) printed new
 answered {entries} {old} {new} {printed} e p = subst (λ (z : Compiled). PrintsAnswer entries old (answerOf z) printed new) (sym e) p
 
-pub refusal-as : {old new : List ℕ} {printed : Printed} {n m s t : ℕ} → n ≡ m → s ≡ t → PrintsRefusal n s old printed new
+pub refusal-as : {old new : List ℕ} {printed : Outcome} {n m s t : ℕ} → n ≡ m → s ≡ t → PrintsRefusal n s old printed new
     → PrintsRefusal m t old printed new
 refusal-as {old} {new} {printed} {n} {m} {s} {t} e f p =
     subst (λ (y : ℕ). PrintsRefusal m y old printed new) f (subst (λ (x : ℕ). PrintsRefusal x s old printed new) e p)

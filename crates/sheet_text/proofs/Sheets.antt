@@ -15,8 +15,7 @@ use Rattle.compiler.specs.Calling.{Areas, CompilesInto, short, compiles}
 use Rattle.compiler_laws.proofs.CompiledTable.{CompiledAs, compiled-as}
 use Rattle.compiler_laws.proofs.Spots.{refused-low}
 use Rattle.printing.specs.Text.{modeWord, counts, rowLine, rowLines, tableText, refusalText}
-use Rattle.printing.specs.declared.Printed.{Printed}
-use Rattle.printing.specs.Printing.{TableInRange, RefusalInRange, Gives, PrintsTable, PrintsRefusal, out-of-range, in-range}
+use Rattle.printing.specs.Printing.{Outcome, TableInRange, RefusalInRange, Gives, PrintsTable, PrintsRefusal, out-of-range, in-range}
 use Rattle.sheet_text.specs.SheetText.{PrintsAnswer, PrintsSheet, of-table, of-refusal}
 
 -- what stands behind the rows is not read
@@ -64,7 +63,7 @@ module _ (bytes : List ℕ) where
         }
 
 module _ (bytes : List ℕ) {written old : List ℕ} where
-  table-printed : {new : List ℕ} {printed : Printed} {actions rows : ℕ} (mode : Mode) (rest : List ℕ) → Compiles bytes 1024 64 (accepted (modeNumber mode) actions rows) written
+  table-printed : {new : List ℕ} {printed : Outcome} {actions rows : ℕ} (mode : Mode) (rest : List ℕ) → Compiles bytes 1024 64 (accepted (modeNumber mode) actions rows) written
       → PrintsTable mode actions rows (entriesOf (written ++ rest)) old printed new → PrintsSheet bytes old printed new
   table-printed mode rest c (out-of-range f) = absurd (f (table-in-range bytes c rest))
   table-printed {actions = actions} {rows} mode rest c (in-range printed new r g) =
@@ -77,19 +76,19 @@ module _ (bytes : List ℕ) {written old : List ℕ} where
         given = subst (λ (l : List ℕ). Gives l old printed new) (text-front mode actions rows written rest (table-size bytes c)) g;
       }
 
-  refusal-printed : {new : List ℕ} {printed : Printed} {number spot : ℕ} → Compiles bytes 1024 64 (refused number spot) written → PrintsRefusal number spot old printed new
+  refusal-printed : {new : List ℕ} {printed : Outcome} {number spot : ℕ} → Compiles bytes 1024 64 (refused number spot) written → PrintsRefusal number spot old printed new
       → PrintsSheet bytes old printed new
   refusal-printed c (out-of-range f) = absurd (f (refused-small bytes c))
   refusal-printed {number = number} {spot} c (in-range printed new r g) =
       record { answer = refused number spot; written = written; text = refusalText number spot; compiled = c; said = of-refusal number spot; given = g }
 
 -- the table stands at the front of its area
-sheet-printed : (bytes rest : List ℕ) {written old new : List ℕ} {answer : Answer} {printed : Printed} → Compiles bytes 1024 64 answer written
+sheet-printed : (bytes rest : List ℕ) {written old new : List ℕ} {answer : Answer} {printed : Outcome} → Compiles bytes 1024 64 answer written
     → PrintsAnswer (entriesOf (written ++ rest)) old answer printed new → PrintsSheet bytes old printed new
 sheet-printed bytes rest c (of-table mode actions rows printed new p) = table-printed bytes mode rest c p
 sheet-printed bytes rest c (of-refusal number spot printed new p) = refusal-printed bytes c p
 
-pub into-printed : {bytes out work values written work′ values′ old new : List ℕ} {answer : Answer} {printed : Printed} → Areas out work values
+pub into-printed : {bytes out work values written work′ values′ old new : List ℕ} {answer : Answer} {printed : Outcome} → Areas out work values
     → CompilesInto bytes out work values answer written work′ values′ → PrintsAnswer (entriesOf written) old answer printed new
     → PrintsSheet bytes old printed new
 into-printed areas (short n) p = absurd (n areas)

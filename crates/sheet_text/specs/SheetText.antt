@@ -7,14 +7,13 @@ use Rattle.table.specs.Answer.{Answer, accepted, refused, modeNumber}
 use Rattle.table.specs.Table.{entriesOf}
 use Rattle.compiler.specs.Compiles.{Compiles}
 use Rattle.printing.specs.Text.{tableText, refusalText}
-use Rattle.printing.specs.declared.Printed.{Printed}
-use Rattle.printing.specs.Printing.{Gives, PrintsTable, PrintsRefusal}
+use Rattle.printing.specs.Printing.{Outcome, Gives, PrintsTable, PrintsRefusal}
 
 -- A table is printed with its rows' entries, a refusal with its number and spot.
-pub data PrintsAnswer (entries old : List ℕ) : Answer → Printed → List ℕ → Type 0 where
-  of-table : (mode : Mode) (actions rows : ℕ) (printed : Printed) (new : List ℕ) → PrintsTable mode actions rows entries old printed new
+pub data PrintsAnswer (entries old : List ℕ) : Answer → Outcome → List ℕ → Type 0 where
+  of-table : (mode : Mode) (actions rows : ℕ) (printed : Outcome) (new : List ℕ) → PrintsTable mode actions rows entries old printed new
       → PrintsAnswer entries old (accepted (modeNumber mode) actions rows) printed new
-  of-refusal : (number spot : ℕ) (printed : Printed) (new : List ℕ) → PrintsRefusal number spot old printed new
+  of-refusal : (number spot : ℕ) (printed : Outcome) (new : List ℕ) → PrintsRefusal number spot old printed new
       → PrintsAnswer entries old (refused number spot) printed new
 
 -- The text of an answer, with the bytes of its table.
@@ -23,7 +22,7 @@ pub data AnswerText (written : List ℕ) : Answer → List ℕ → Type 0 where
   of-refusal : (number spot : ℕ) → AnswerText written (refused number spot) (refusalText number spot)
 
 -- A sheet is printed: the text of what compiling gives is given to the area.
-pub record PrintsSheet (bytes old : List ℕ) (printed : Printed) (new : List ℕ) : Type 0 where
+pub record PrintsSheet (bytes old : List ℕ) (printed : Outcome) (new : List ℕ) : Type 0 where
   pub answer : Answer
   pub written : List ℕ
   pub text : List ℕ

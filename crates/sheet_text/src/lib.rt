@@ -6,11 +6,12 @@ use syntax::fault_spot;
 ghost use mathlib.Core.Path.{_≡_};
 ghost use lib.ListN.{length};
 ghost use Rattle.compiler.specs.Calling.{answerOf};
+ghost use Rattle.printing.specs.Printing.{outcomeOf};
 ghost use Rattle.sheet_text.specs.SheetText.{PrintsAnswer, PrintsSheet};
 
 // Prints an answer: the text of the table whose rows are `entries`, or of the refusal.
 pub fn print_answer(compiled: Compiled, entries: &[u8], text: &mut [u8]) -> Printed
-    ensures { λ r. ⌜ PrintsAnswer (now (entries .entry)) (now (text .entry)) (answerOf compiled) r (now (text .exit)) ⌝ }
+    ensures { λ r. ⌜ PrintsAnswer (now (entries .entry)) (now (text .entry)) (answerOf compiled) (outcomeOf r) (now (text .exit)) ⌝ }
 {
     match compiled {
         Compiled::Table {
@@ -50,7 +51,7 @@ fn room_for_values() -> [u64; 1024]
 
 // Compiles a sheet, with areas of its own, and prints the answer to the front of `text`.
 pub fn print_sheet(sheet: &[u8], text: &mut [u8]) -> Printed
-    ensures { λ r. ⌜ PrintsSheet (now (sheet .entry)) (now (text .entry)) r (now (text .exit)) ⌝ }
+    ensures { λ r. ⌜ PrintsSheet (now (sheet .entry)) (now (text .entry)) (outcomeOf r) (now (text .exit)) ⌝ }
 {
     let mut table = room_for_table();
     let mut work = room_for_bytes();

@@ -1,4 +1,4 @@
--- The starred cases of document 01's 'A small roastery' as one list of sheets and tables.
+-- The starred cases of docs/FORMATS.md, "A small roastery", as one list of sheets and tables.
 -- Assumes nothing.
 use mathlib.Core.List.{List, [], _∷_}
 use Prim.Native.Nat.{ℕ}
@@ -31,7 +31,7 @@ tray = Proposition 2
 abbrev log : Node
 log = Proposition 3
 
--- the papers' '-'
+-- the printed '-'
 abbrev x : ℕ
 x = 255
 

@@ -1,4 +1,4 @@
--- Sheets and tables written out: a sheet by its actions and its nodes, a table by its rows (document 01, "The rule sheet" and "The table").
+-- Sheets and tables written out: a sheet by its actions and its nodes, a table by its rows (docs/FORMATS.md, "The rule sheet" and "The table").
 -- Assumes nothing.
 use mathlib.Core.List.{List, [], _∷_, _++_, map}
 use Prim.Native.Nat.{ℕ}

@@ -1,1 +1,1 @@
-// The starred cases of document 01: one list of sheets and tables, proved together against the meanings.
+// The starred cases of docs/FORMATS.md, "A small roastery": one list of sheets and tables, proved together against the meanings.

@@ -10,7 +10,7 @@ use Rattle.policy.specs.declared.Bound.{Bound}
 use Rattle.policy.specs.declared.Bound.the-variants.{Finite}
 use Rattle.policy.specs.declared.Typing.{Typing}
 use Rattle.policy.specs.declared.Typing.the-variants.{Typed, Untyped}
-use Rattle.policy.specs.Typing.{larger, plus, onMode, ifWatched, ifEnforced, alikeTyped, exactly, typeFulfilling}
+use Rattle.policy.specs.Typing.{larger, plus, onMode, ifWatched, ifEnforced, alikeTyped, exactly, typeAfter-, typeAfter+, typeFulfilling}
 use Rattle.syntax.specs.Types.{onlyAs}
 
 not-typed : {A : Type 0} {m : Mode} {k : Bound} → Untyped ≡ Typed m k → A
@@ -52,6 +52,33 @@ alike Enforced j t e = enforced-as t (λ k. Typed Enforced (larger j k)) e
 pub not-alike : (m : Mode) (j : Bound) (t : Typing) → onlyAs m t ≡ Untyped → alikeTyped (Typed m j) t ≡ Untyped
 not-alike Watched j t e = not-watched t (λ k. Typed Watched (larger j k)) e
 not-alike Enforced j t e = not-enforced t (λ k. Typed Enforced (larger j k)) e
+
+-- kinds 20 and 21, their parts one after the other: b and the whole are of mode m
+module _ (m : Mode) (s t : Typing) where
+  abbrev pub afterTyped : Typing
+  afterTyped = onMode m (typeAfter- s t) (typeAfter+ s t)
+
+  pub not-after-a : onlyAs Watched s ≡ Untyped → afterTyped ≡ Untyped
+  not-after-a e = by m
+    where
+      by : (m : Mode) → onMode m (typeAfter- s t) (typeAfter+ s t) ≡ Untyped
+      by Watched = not-watched s (λ j. ifWatched t (λ k. Typed Watched (plus j k))) e
+      by Enforced = not-watched s (λ j. ifEnforced t (λ k. Typed Enforced (plus j k))) e
+
+  module _ {l : Mode} {j : Bound} (a : onlyAs Watched s ≡ Typed l j) where
+    pub not-after-b : onlyAs m t ≡ Untyped → afterTyped ≡ Untyped
+    not-after-b e = by m e
+      where
+        by : (m : Mode) → onlyAs m t ≡ Untyped → onMode m (typeAfter- s t) (typeAfter+ s t) ≡ Untyped
+        by Watched e = watched-as s (λ j. ifWatched t (λ k. Typed Watched (plus j k))) a ∙ not-watched t (λ k. Typed Watched (plus j k)) e
+        by Enforced e = watched-as s (λ j. ifEnforced t (λ k. Typed Enforced (plus j k))) a ∙ not-enforced t (λ k. Typed Enforced (plus j k)) e
+
+    pub after-ab : {n : Mode} {k : Bound} → onlyAs m t ≡ Typed n k → afterTyped ≡ Typed m (plus j k)
+    after-ab {k = k} e = by m e
+      where
+        by : (m : Mode) {n : Mode} → onlyAs m t ≡ Typed n k → onMode m (typeAfter- s t) (typeAfter+ s t) ≡ Typed m (plus j k)
+        by Watched e = watched-as s (λ j. ifWatched t (λ k. Typed Watched (plus j k))) a ∙ watched-as t (λ k. Typed Watched (plus j k)) e
+        by Enforced e = watched-as s (λ j. ifEnforced t (λ k. Typed Enforced (plus j k))) a ∙ enforced-as t (λ k. Typed Enforced (plus j k)) e
 
 -- kind 22, its parts one after the other
 module _ (n : ℕ) (s t u : Typing) where

@@ -23,7 +23,7 @@ use Rattle.syntax.specs.declared.TypeFound.{TypeFound}
 use Rattle.syntax.specs.declared.TypeFound.the-variants.{Fits, Unfit, TooLong}
 use Rattle.syntax.proofs.NodeTypes.{type-local}
 
-not-typed : {A : Type 0} {f : Fault} {types : List TypedNode} → mistyped f ≡ typed types → A
+not-typed : {A : Type 0} {f : Fault} {before types : List TypedNode} → mistyped f before ≡ typed types → A
 not-typed e = absurd (let z : _≡_ {A = ℕ} 0 1 = cc in omega arith)
 
 not-sound : {A : Type 0} {f : Fault} {m : Mode} {s : Sheet} {types : List TypedNode} → faulty f ≡ sound m s types → A
@@ -53,7 +53,7 @@ module _ (nodes : List ListedNode) where
       found before p TooLong q e = not-typed e
 
       by : (o : Typings) → typeNodes nodes n ≡ o → unlessMistyped o (λ types. typeNext n types (typeNode (nodeAt nodes n) (typeAt types))) ≡ typed types → Last n types
-      by (mistyped f) p e = not-typed e
+      by (mistyped f t) p e = not-typed e
       by (typed before) p e = found before p (typeNode (nodeAt nodes n) (typeAt before)) refl e
 
   types-of : (n : ℕ) → n ≤ 64 → ((i : ℕ) → i < n → PartsBelow i (nodeAt nodes i)) → (types : List TypedNode) → typeNodes nodes n ≡ typed types
@@ -101,7 +101,7 @@ from-judged sheet {mode} {other} {types} e = by (typeNodes (sheet .nodes) (sheet
         record { same = cc; all = rw alike at p; bound = k; last = rw also at (rw alike at q) }
 
     by : (o : Typings) → typeNodes (sheet .nodes) (sheet .count) ≡ o → judgeTyped sheet o ≡ sound mode other types → JudgedSound sheet mode other types
-    by (mistyped f) p e = not-sound e
+    by (mistyped f t) p e = not-sound e
     by (typed all) p e = last all p (typeAt all (sheet .count - 1)) refl e
 
 module _ (sheet : Sheet) {mode : Mode} {other : Sheet} {types : List TypedNode} (judged : judgeSheet sheet ≡ sound mode other types) where

@@ -14,11 +14,11 @@ use Rattle.syntax.specs.declared.TypeFound.{TypeFound}
 use Rattle.syntax.specs.declared.Fault.{Fault}
 
 module _ (nodes : List ListedNode) where
-  fault-stays : (m n : ℕ) (f : Fault) → typeNodes nodes n ≡ mistyped f → n ≤ m → typeNodes nodes m ≡ mistyped f
-  fault-stays zero n f e h = let z : n ≡ 0 = omega arith in rw z at e
-  fault-stays (suc m) n f e h = go (fault-stays m n f e) (ℕ-discrete n (suc m))
+  fault-stays : (m n : ℕ) (f : Fault) (t : List TypedNode) → typeNodes nodes n ≡ mistyped f t → n ≤ m → typeNodes nodes m ≡ mistyped f t
+  fault-stays zero n f t e h = let z : n ≡ 0 = omega arith in rw z at e
+  fault-stays (suc m) n f t e h = go (fault-stays m n f t e) (ℕ-discrete n (suc m))
     where
-      go : (n ≤ m → typeNodes nodes m ≡ mistyped f) → Dec (n ≡ suc m) → typeNodes nodes (suc m) ≡ mistyped f
+      go : (n ≤ m → typeNodes nodes m ≡ mistyped f t) → Dec (n ≡ suc m) → typeNodes nodes (suc m) ≡ mistyped f t
       go below (yes p) = rw p at e
       go below (no q) = rw (below (omega arith))
 
@@ -27,5 +27,5 @@ module _ (nodes : List ListedNode) where
     pub type-more : typeNodes nodes (suc n) ≡ typeNext n types found
     type-more = rw before (ap (typeNext n types) (sym is))
 
-    pub fault-at : (count : ℕ) (f : Fault) → n < count → typeNext n types found ≡ mistyped f → typeNodes nodes count ≡ mistyped f
-    fault-at count f h e = fault-stays count (suc n) f (type-more ∙ e) h
+    pub fault-at : (count : ℕ) (f : Fault) → n < count → typeNext n types found ≡ mistyped f types → typeNodes nodes count ≡ mistyped f types
+    fault-at count f h e = fault-stays count (suc n) f types (type-more ∙ e) h

@@ -1,4 +1,4 @@
--- A fault as document 01's number and spot: the node for 4 to 7, else 0.
+-- A fault as its number and spot (docs/FORMATS.md, "Refusals"): the node for 4 to 7, else 0.
 -- Assumes nothing.
 use Prim.Native.Nat.{ℕ}
 use Rattle.syntax.specs.declared.Fault.{Fault}

@@ -25,9 +25,9 @@ use Rattle.syntax.specs.declared.Judged.{Judged}
 use Rattle.syntax.specs.declared.Judged.the-variants.{Sound, Faulty}
 use Rattle.syntax.specs.declared.TypedNodes.{TypedNodes}
 
--- The types of the first nodes, `Formula` behind them; or the first fault.
+-- The types of the first nodes, `Formula` behind them; or the first fault, with the types of the nodes before it.
 pub data Typings : Type 0 where
-  mistyped : Fault → Typings
+  mistyped : Fault → List TypedNode → Typings
   typed : List TypedNode → Typings
 
 abbrev pub noTypes : List TypedNode
@@ -36,12 +36,12 @@ noTypes = replicate 64 (record { of = Formula })
 -- checks 6 and 7 of node n, the nodes before it having `types`
 abbrev pub typeNext : ℕ → List TypedNode → TypeFound → Typings
 typeNext n types (Fits t) = typed (set types n (record { of = t }))
-typeNext n types Unfit = mistyped (WrongTypeAt n)
-typeNext n types TooLong = mistyped (BoundAt n)
+typeNext n types Unfit = mistyped (WrongTypeAt n) types
+typeNext n types TooLong = mistyped (BoundAt n) types
 
 -- an earlier fault stays
 abbrev pub unlessMistyped : Typings → (List TypedNode → Typings) → Typings
-unlessMistyped (mistyped f) next = mistyped f
+unlessMistyped (mistyped f types) next = mistyped f types
 unlessMistyped (typed types) next = next types
 
 -- the first n nodes, one after the other
@@ -51,7 +51,7 @@ typeNodes nodes (suc n) = unlessMistyped (typeNodes nodes n) (λ types. typeNext
 
 -- What the code returns of it.
 abbrev pub typedNodes : Typings → TypedNodes
-typedNodes (mistyped f) = record { judged = Faulty f; types = noTypes }
+typedNodes (mistyped f types) = record { judged = Faulty f; types = types }
 typedNodes (typed types) = record { judged = Sound; types = types }
 
 -- The outcome of the checks: the first fault, or the policy's mode with the sheet and the types of its nodes.
@@ -65,7 +65,7 @@ judgeLast sheet types Formula = faulty (WrongTypeAt (sheet .count - 1))
 judgeLast sheet types (Policy m k) = sound m sheet types
 
 abbrev pub judgeTyped : Sheet → Typings → Judgement
-judgeTyped sheet (mistyped f) = faulty f
+judgeTyped sheet (mistyped f types) = faulty f
 judgeTyped sheet (typed types) = judgeLast sheet types (typeAt types (sheet .count - 1))
 
 -- Checks 6 and 7 of a sheet: node by node, and then the last node's 6.

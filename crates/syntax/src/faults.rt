@@ -1,4 +1,4 @@
-// Faults as document 01's numbers and spots.
+// Faults as numbers and spots (docs/FORMATS.md, "Refusals").
 use crate::Fault;
 ghost use mathlib.Core.Path.{_≡_};
 ghost use Rattle.syntax.specs.Faults.{numberOf, spotOf};

@@ -11,7 +11,6 @@ pub use faults::fault_number;
 pub use faults::fault_spot;
 pub use types::type_at;
 pub use types::type_node;
-pub use typing::blank_types;
 pub use typing::type_nodes;
 
 // A node: an action formula (kinds 1 to 6) or a policy (kinds 10 to 23), over the numbers of its parts.
@@ -86,7 +85,7 @@ pub enum Judged {
     Faulty(Fault),
 }
 
-// The types of nodes, or the first fault of checks 6 and 7.
+// The types of nodes, and the first fault of checks 6 and 7, where there is one; the types are then those of the nodes before it.
 pub struct TypedNodes {
     pub judged: Judged,
     pub types: [TypedNode; 64],

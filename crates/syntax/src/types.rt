@@ -7,7 +7,7 @@ use policy::Bound;
 use policy::Typing;
 use trace::Mode;
 ghost use mathlib.Core.Path.{_≡_};
-ghost use Rattle.policy.specs.Typing.{exactly, plus, alikeTyped, typeCount, typeNot, typeEventually, typeAlways, typeBefore-, typeBefore+, typeAfter-, typeAfter+, typeFulfilling, typeIgnoring};
+ghost use Rattle.policy.specs.Typing.{exactly, plus, onMode, alikeTyped, typeCount, typeNot, typeEventually, typeAlways, typeBefore-, typeBefore+, typeAfter-, typeAfter+, typeFulfilling, typeIgnoring};
 ghost use Rattle.policy.specs.declared.Typing.the-variants.{Typed};
 ghost use Rattle.syntax.specs.Types.{typeAt, typingOf, ifFormula, boundFits, typeNode, onlyAs};
 
@@ -195,44 +195,31 @@ fn type_before_plus(s: Typing, t: Typing) -> Typing
 fn type_ignoring(t: Typing) -> Typing
     ensures { λ r. ⌜ r ≡ typeIgnoring t ⌝ }
 {
-    let Typing::Typed(m, _) = t else {
+    let Typing::Typed(m, _bound) = t else {
         return Typing::Untyped;
     };
     Typing::Typed(m, Bound::Unbounded)
 }
 
-// Checks 6 and 7 of After-, whose bound is a sum.
-fn found_after_minus(s: Typing, t: Typing) -> TypeFound
-    ensures { λ r. ⌜ r ≡ Rattle.syntax.specs.Types.found (typeAfter- s t) ⌝ }
+// Checks 6 and 7 of After- and After+, whose bound is a sum: b has to be of the mode that the whole has.
+fn found_after(mode: Mode, s: Typing, t: Typing) -> TypeFound
+    ensures { λ r. ⌜ r ≡ Rattle.syntax.specs.Types.found (onMode mode (typeAfter- s t) (typeAfter+ s t)) ⌝ }
 {
     let Typing::Typed(_, j) = only(Mode::Watched, s) else {
         return TypeFound::Unfit;
     };
-    let Typing::Typed(_, k) = only(Mode::Watched, t) else {
+    let Typing::Typed(_, k) = only(mode, t) else {
         return TypeFound::Unfit;
     };
-    found_sum(Mode::Watched, j, k)
-}
-
-// Checks 6 and 7 of After+.
-fn found_after_plus(s: Typing, t: Typing) -> TypeFound
-    ensures { λ r. ⌜ r ≡ Rattle.syntax.specs.Types.found (typeAfter+ s t) ⌝ }
-{
-    let Typing::Typed(_, j) = only(Mode::Watched, s) else {
-        return TypeFound::Unfit;
-    };
-    let Typing::Typed(_, k) = only(Mode::Enforced, t) else {
-        return TypeFound::Unfit;
-    };
-    found_sum(Mode::Enforced, j, k)
+    found_sum(mode, j, k)
 }
 
 // Whether a bound is exactly k.
-fn is_bound(b: Bound, k: u8) -> bool
+fn is_bound(b: Bound, k: u16) -> bool
     ensures { λ r. ⌜ r ≡ exactly b k ⌝ }
 {
     match b {
-        Bound::Finite(j) => j == k as u16,
+        Bound::Finite(j) => j == k,
         Bound::Unbounded => false,
     }
 }
@@ -250,8 +237,9 @@ fn found_fulfilling(k: u8, s: Typing, t: Typing, u: Typing) -> TypeFound
     let Typing::Typed(_, l) = only(Mode::Enforced, u) else {
         return TypeFound::Unfit;
     };
-    if is_bound(i, k) {
-        found_sum(Mode::Enforced, Bound::Finite(k as u16), larger(j, l))
+    let most = k as u16;
+    if is_bound(i, most) {
+        found_sum(Mode::Enforced, Bound::Finite(most), larger(j, l))
     } else {
         TypeFound::Unfit
     }
@@ -280,8 +268,8 @@ pub fn type_node(node: Node, types: [TypedNode; 64]) -> TypeFound
         Node::Always(a) => found(type_always(part_at(types, a))),
         Node::BeforeMinus(a, b) => found(type_before_minus(part_at(types, a), part_at(types, b))),
         Node::BeforePlus(a, b) => found(type_before_plus(part_at(types, a), part_at(types, b))),
-        Node::AfterMinus(a, b) => found_after_minus(part_at(types, a), part_at(types, b)),
-        Node::AfterPlus(a, b) => found_after_plus(part_at(types, a), part_at(types, b)),
+        Node::AfterMinus(a, b) => found_after(Mode::Watched, part_at(types, a), part_at(types, b)),
+        Node::AfterPlus(a, b) => found_after(Mode::Enforced, part_at(types, a), part_at(types, b)),
         Node::Fulfilling(k, a, b, c) => {
             let s = part_at(types, a);
             found_fulfilling(k, s, part_at(types, b), part_at(types, c))

@@ -9,33 +9,16 @@ use crate::TypedNodes;
 use crate::types::type_node;
 ghost use mathlib.Core.Path.{_≡_};
 ghost use Prim.Native.Nat.{_≤_};
-ghost use Rattle.syntax.specs.Typed.{noTypes, mistyped, typeNodes, typedNodes};
+ghost use Rattle.syntax.specs.Typed.{typeNodes, typedNodes};
 
-// No types yet: every node counts as a formula.
-pub fn blank_types() -> [TypedNode; 64]
-    ensures { λ r. ⌜ r ≡ noTypes ⌝ }
-{
-    [TypedNode {
-        of: NodeType::Formula,
-    }; 64]
-}
-
-// A fault, and no types.
-fn fault_found(fault: Fault) -> TypedNodes
-    ensures { λ r. ⌜ r ≡ typedNodes (mistyped fault) ⌝ }
-{
-    TypedNodes {
-        judged: Judged::Faulty(fault),
-        types: blank_types(),
-    }
-}
-
-// The types of the first `count` nodes, or the first fault among them.
+// The types of the first `count` nodes; or the first fault among them, and the types of the nodes before it.
 pub fn type_nodes(nodes: [ListedNode; 64], count: usize) -> TypedNodes
     requires { ⌜ count ≤ 64 ⌝ }
     ensures { λ r. ⌜ r ≡ typedNodes (typeNodes nodes count) ⌝ }
 {
-    let mut types = blank_types();
+    let mut types = [TypedNode {
+        of: NodeType::Formula,
+    }; 64];
     let mut n = 0;
     while n < count {
         let listed = nodes[n];
@@ -45,10 +28,16 @@ pub fn type_nodes(nodes: [ListedNode; 64], count: usize) -> TypedNodes
                 types[n] = TypedNode { of: t };
             }
             TypeFound::Unfit => {
-                return fault_found(Fault::WrongTypeAt(n));
+                return TypedNodes {
+                    judged: Judged::Faulty(Fault::WrongTypeAt(n)),
+                    types,
+                };
             }
             TypeFound::TooLong => {
-                return fault_found(Fault::BoundAt(n));
+                return TypedNodes {
+                    judged: Judged::Faulty(Fault::BoundAt(n)),
+                    types,
+                };
             }
         }
         n += 1;

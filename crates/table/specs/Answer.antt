@@ -1,4 +1,4 @@
--- What the table loader answers, in document 01's numbers.
+-- What the table loader answers, in the numbers of docs/FORMATS.md, "Refusals".
 -- Assumes nothing.
 use mathlib.Core.Path.{_≡_}
 use mathlib.Core.List.{List}
@@ -11,7 +11,7 @@ use Rattle.table.specs.declared.Header.the-variants.{Fields, BadHeader}
 use Rattle.table.specs.declared.Loaded.{Loaded}
 use Rattle.table.specs.declared.Loaded.the-variants.{Table, Malformed, NotCanonical}
 
--- An answer in document 01's terms: an accepted table's type, actions and rows, or a refusal's number and spot.
+-- An answer (docs/FORMATS.md, "Answers"): an accepted table's type, actions and rows, or a refusal's number and spot.
 pub data Answer : Type 0 where
   accepted : (type actions rows : ℕ) → Answer
   refused : (number spot : ℕ) → Answer

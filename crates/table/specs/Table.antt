@@ -1,11 +1,11 @@
--- A table's bytes (document 01, "The table"): the header, the rows, checks 10 and 11, and the verdict.
+-- A table's bytes (docs/FORMATS.md, "The table"): the header, the rows, checks 10 and 11, and the verdict.
 -- Assumes nothing.
 use mathlib.Core.Path.{_≡_}
 use mathlib.Core.Bool.{Bool, cond, not}
 use mathlib.Core.List.{List}
 use Prim.Native.Nat.{ℕ, _+_, _*_, _≤_, _<_}
 use lib.Dec.{eqb}
-use lib.ListN.{length, getD, drop}
+use lib.ListN.{length, getD, take, drop}
 use Rattle.base.specs.Word.{wordAt}
 use Rattle.trace.specs.Trace.{Step, trips, Sequence}
 use Rattle.automaton.specs.Machine.{transition, Machine, Numbered, Distinct}
@@ -22,6 +22,13 @@ rowsOf bytes = wordAt bytes 4
 
 abbrev pub offsetOf : List ℕ → ℕ
 offsetOf bytes = wordAt bytes 6
+
+-- The length that a header gives, and the table of that length at the front of some bytes.
+abbrev pub tableLength : List ℕ → ℕ
+tableLength bytes = 8 + rowsOf bytes * actionsOf bytes
+
+abbrev pub frontTable : List ℕ → List ℕ
+frontTable bytes = take (tableLength bytes) bytes
 
 -- The rows, one behind the other: entry r * actions + a is the next row's number, or 255 for a trip.
 abbrev pub entriesOf : List ℕ → List ℕ
@@ -49,7 +56,7 @@ pub record HeaderFits (bytes : List ℕ) : Type 0 where
 -- Check 10 passes: the length, the header and every entry are right.
 pub record WellFormed (bytes : List ℕ) : Type 0 where
   pub header : HeaderFits bytes
-  pub whole : length bytes ≡ 8 + rowsOf bytes * actionsOf bytes
+  pub whole : length bytes ≡ tableLength bytes
   pub entries : (k : ℕ) → k < rowsOf bytes * actionsOf bytes → EntryFits (rowsOf bytes) (getD (entriesOf bytes) k 255)
 
 -- Rows that pass 10, by themselves.

@@ -4,6 +4,7 @@ use crate::rows::entries_fit;
 use base::word;
 use trace::Mode;
 ghost use mathlib.Core.Path.{_≡_};
+ghost use Rattle.table.specs.Table.{frontTable};
 ghost use Rattle.table.specs.Answer.{modeNumber, HeaderRead, Checked};
 
 // The type's number in a table's header.
@@ -59,9 +60,9 @@ pub fn header_of(bytes: &[u8]) -> Header
     Header::BadHeader
 }
 
-// Check 10: the header's fields, where length, header and entries are right.
-pub fn check(bytes: &[u8]) -> Header
-    ensures { λ r. ⌜ Checked (now (bytes .entry)) r ⌝ }
+// Check 10 on the table at the front of some bytes, as long as its header gives: the header's fields, where it passes.
+pub fn check_front(bytes: &[u8]) -> Header
+    ensures { λ r. ⌜ Checked (frontTable (now (bytes .entry))) r ⌝ }
 {
     let Header::Fields {
         mode,
@@ -71,11 +72,12 @@ pub fn check(bytes: &[u8]) -> Header
     else {
         return Header::BadHeader;
     };
-    if bytes.len() != 8 + rows * actions {
+    let end = 8 + rows * actions;
+    if bytes.len() < end {
         return Header::BadHeader;
     }
     let count = (rows % 256) as u8;
-    if entries_fit(&bytes[8..], count) {
+    if entries_fit(&bytes[8..end], count) {
         Header::Fields {
             mode,
             actions,
@@ -83,5 +85,27 @@ pub fn check(bytes: &[u8]) -> Header
         }
     } else {
         Header::BadHeader
+    }
+}
+
+// Check 10: the header's fields, where length, header and entries are right.
+pub fn check(bytes: &[u8]) -> Header
+    ensures { λ r. ⌜ Checked (now (bytes .entry)) r ⌝ }
+{
+    let Header::Fields {
+        mode,
+        actions,
+        rows,
+    } = check_front(bytes)
+    else {
+        return Header::BadHeader;
+    };
+    if bytes.len() != 8 + rows * actions {
+        return Header::BadHeader;
+    }
+    Header::Fields {
+        mode,
+        actions,
+        rows,
     }
 }

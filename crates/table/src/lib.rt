@@ -5,7 +5,7 @@ mod format;
 mod loader;
 mod rows;
 
-pub use format::check;
+pub use format::check_front;
 pub use format::header_of;
 pub use format::mode_number;
 pub use loader::load;

@@ -1,6 +1,6 @@
 //! Histories of calls on a board, with the answer stated beside each call.
 
-use super::{papers_table, table_bytes};
+use super::{small_roastery_table, table_bytes};
 use crate::calls::DENIED;
 
 /// A call on the board, or a byte of its area or of its record written by hand, as no call does.
@@ -32,7 +32,7 @@ pub enum Answer {
 }
 
 impl Answer {
-    /// The answer as the library gives it.
+    /// The answer as the corpus has it: number, value, actions, rows, a byte each.
     pub fn bytes(self) -> [u8; 4] {
         match self {
             Done => [0; 4],
@@ -57,15 +57,15 @@ fn history(name: &str, steps: Vec<(Call, Answer)>) -> History {
 }
 
 fn no_charge() -> Vec<u8> {
-    papers_table("Always Holds not charge")
+    small_roastery_table("Always Holds not charge")
 }
 
 fn tray_first() -> Vec<u8> {
-    papers_table("Before+ tray, no charge")
+    small_roastery_table("Before+ tray, no charge")
 }
 
 fn drop() -> Vec<u8> {
-    papers_table("Eventually Now drop")
+    small_roastery_table("Eventually Now drop")
 }
 
 /// All of them. Actions are 0 charge, 1 drop, 2 tray, 3 log; 4, where it is one, is charge and tray.
@@ -161,7 +161,7 @@ fn between() -> History {
         "a drop between charges",
         vec![
             (New, Done),
-            (PutOn(5, papers_table("Whenever charge: Before+ drop")), Done),
+            (PutOn(5, small_roastery_table("Whenever charge: Before+ drop")), Done),
             (Action(3), Permitted(0)),
             (Action(0), Permitted(0)),
             (Action(0), Denied(5)),
@@ -224,7 +224,7 @@ fn combined() -> History {
         "charge and tray in one",
         vec![
             (New, Done),
-            (PutOn(0, papers_table("Before+ with charge and tray in one")), Done),
+            (PutOn(0, small_roastery_table("Before+ with charge and tray in one")), Done),
             (Action(4), Denied(0)),
             (Action(2), Permitted(0)),
             (Action(4), Permitted(0)),
@@ -238,13 +238,13 @@ fn fulfilling() -> History {
         "Fulfilling beside a rule that denies",
         vec![
             (New, Done),
-            (PutOn(0, papers_table("Fulfilling 1 log")), Done),
+            (PutOn(0, small_roastery_table("Fulfilling 1 log")), Done),
             (PutOn(1, no_charge()), Done),
             (Action(0), Denied(1)),
             (Action(3), Permitted(0)),
             (Action(1), Permitted(0)),
             (TakeOff(0), Done),
-            (PutOn(0, papers_table("Fulfilling 1 log")), Done),
+            (PutOn(0, small_roastery_table("Fulfilling 1 log")), Done),
             (Action(2), Permitted(0)),
             (Action(1), Denied(0)),
         ],
@@ -257,9 +257,9 @@ fn watched() -> History {
         "watched rules alone",
         vec![
             (New, Done),
-            (PutOn(0, papers_table("Now true")), Done),
-            (PutOn(2, papers_table("Now false")), Done),
-            (PutOn(4, papers_table("Count 2")), Done),
+            (PutOn(0, small_roastery_table("Now true")), Done),
+            (PutOn(2, small_roastery_table("Now false")), Done),
+            (PutOn(4, small_roastery_table("Count 2")), Done),
             (Action(3), Permitted(1)),
             (Action(0), Permitted(16)),
             (Action(1), Permitted(0)),
@@ -317,8 +317,8 @@ fn forged() -> History {
     let with = |case, row, answer| [(Forge(2, case), Done), (Forge(3, row), Done), (Action(1), answer)];
     let mut steps = vec![
         (New, Done),
-        (PutOn(1, papers_table("Count 2")), Done),
-        (PutOn(6, papers_table("Holds drop")), Done),
+        (PutOn(1, small_roastery_table("Count 2")), Done),
+        (PutOn(6, small_roastery_table("Holds drop")), Done),
         (Action(1), Permitted(0)),
     ];
     steps.extend(with(2, 2, Refused(25))); // a row that the table has not
@@ -355,7 +355,7 @@ fn unread() -> History {
 
 /// A differs from that of the rules on, also of a fulfilled one.
 fn other_actions() -> History {
-    let five = || papers_table("Before+ with charge and tray in one");
+    let five = || small_roastery_table("Before+ with charge and tray in one");
     history(
         "other numbers of actions",
         vec![

@@ -1,6 +1,6 @@
 //! Tables with the loader's answer stated beside each: accepted ones, and ones wrong in one thing alone.
 
-use super::{papers, table_bytes, Stated};
+use super::{small_roastery, table_bytes, Stated};
 use crate::table::{Table, HEADER, LARGEST};
 
 /// A table's bytes, and what is stated of them: what the header says, or refusal 10 or 11.
@@ -14,7 +14,7 @@ fn case(name: &str, bytes: Vec<u8>, stated: Result<Table, u8>) -> TableCase {
     TableCase { name: name.into(), bytes, stated }
 }
 
-/// A table that is accepted, written as in the papers.
+/// A table that is accepted, written as in docs/FORMATS.md.
 fn accepted(name: &str, text: &str) -> TableCase {
     let bytes = table_bytes(text);
     let table = Table { kind: bytes[0], actions: bytes[2], rows: bytes[4] };
@@ -28,7 +28,7 @@ fn zeros(kind: u8, actions: u8, rows: u8, entries: usize) -> Vec<u8> {
     bytes
 }
 
-/// All of them, the papers' tables first.
+/// All of them, the small roastery's tables first.
 pub fn all() -> Vec<TableCase> {
     [roastery(), limits(), headers(), counts(), lengths(), entries(), numbering(), alike()]
         .into_iter()
@@ -42,7 +42,7 @@ fn roastery() -> Vec<TableCase> {
         Stated::Table(text) => Some(accepted(&case.name, text)),
         _ => None,
     };
-    papers().into_iter().filter_map(table).collect()
+    small_roastery().into_iter().filter_map(table).collect()
 }
 
 /// The ends of the ranges, and rows that only a longer sequence tells apart.

@@ -38,7 +38,7 @@ impl Desk {
     /// Makes a call and gives its answer. A byte that is written answers 0.
     pub fn call(&mut self, call: &Call, short: bool) -> [u8; 4] {
         let (record, area) = (&mut self.record, &mut self.area[..AREA - short as usize]);
-        let word = match call {
+        let answer = match call {
             Call::New => calls::new_board(record, area),
             Call::PutOn(place, table) => calls::put_on(record, area, *place, table),
             Call::TakeOff(place) => calls::take_off(record, area, *place),
@@ -52,7 +52,7 @@ impl Desk {
                 0
             }
         };
-        word.to_le_bytes()
+        calls::bytes(answer)
     }
 }
 

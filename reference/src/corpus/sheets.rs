@@ -1,8 +1,8 @@
-//! The corpus of sheets: the papers' first, then those with a stated answer, then drawn ones.
+//! The corpus of sheets: those of "A small roastery" first, then those with a stated answer, then drawn ones.
 
 use super::{tally, write, Corpus};
 use crate::calls::{self, VALUES, WORK};
-use crate::cases::{counted, papers, sheets, Case, Lent};
+use crate::cases::{counted, sheets, small_roastery, Case, Lent};
 use crate::generate::{lay_out, sheet, Random, Style};
 use crate::inputs::sheets::SORTS;
 use crate::inputs::tables::Pool;
@@ -23,7 +23,7 @@ fn record(name: String, lent: Lent, sheet: Vec<u8>) -> Record {
     let mut out = vec![0; short(Lent::ShortTable, LARGEST)];
     let mut work = vec![0; short(Lent::ShortWork, WORK)];
     let mut values = vec![0; short(Lent::ShortValues, VALUES)];
-    let answer = calls::compile(&sheet, &mut out, &mut work, &mut values).to_le_bytes();
+    let answer = calls::bytes(calls::compile(&sheet, &mut out, &mut work, &mut values));
     out.truncate(if answer[0] == 0 { 8 + answer[2] as usize * answer[3] as usize } else { 0 });
     Record { name, lent, sheet, answer, table: out }
 }
@@ -36,7 +36,7 @@ const OF_EACH_KIND: usize = 14;
 const ROUNDS: usize = 4;
 
 pub fn all() -> Vec<Record> {
-    let stated = papers().into_iter().chain(sheets::all()).chain(counted::all());
+    let stated = small_roastery().into_iter().chain(sheets::all()).chain(counted::all());
     let mut all: Vec<Record> = stated.map(|Case { name, lent, sheet, .. }| record(name, lent, sheet)).collect();
     let mut random = Random(1);
     let mut draw = |name: String, draw: &dyn Fn(&mut Random) -> Vec<u8>| {

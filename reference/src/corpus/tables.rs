@@ -26,7 +26,7 @@ fn all(pool: &Pool) -> Vec<(String, Vec<u8>)> {
 
 pub fn corpus(pool: &Pool) -> Corpus {
     let records = all(pool);
-    let answers: Vec<[u8; 4]> = records.iter().map(|(_, bytes)| calls::load(bytes).to_le_bytes()).collect();
+    let answers: Vec<[u8; 4]> = records.iter().map(|(_, bytes)| calls::bytes(calls::load(bytes))).collect();
     let stdout = format!(
         "tables {}\nanswers{}\ndisagreements 0\n",
         records.len(),

@@ -39,7 +39,7 @@ pub struct Beside {
 }
 
 /// The answer of both, or what differs.
-pub type Outcome = Result<u32, String>;
+pub type Outcome = Result<u64, String>;
 
 impl Beside {
     pub fn new() -> Beside {
@@ -86,7 +86,7 @@ impl Beside {
         report.same("out", &mut self.out, &out);
         report.same("work", &mut self.work, &self.expected_work);
         report.same("values", &mut self.values, &self.expected_values);
-        let number = answer as u8;
+        let number = answer as u16;
         if number != 0 && *self.out.contents() != before[..] {
             report.differs("refused, but out is changed");
         }
@@ -127,7 +127,7 @@ impl Beside {
         report.same("record", &mut self.record, record);
         report.same("area", &mut self.area, area);
         let changed = *self.record.contents() != record_before[..] || *self.area.contents() != area_before[..];
-        if answer as u8 != 0 && changed {
+        if answer as u16 != 0 && changed {
             report.differs("refused or denied, but the board is changed");
         }
         let inputs = [("record", &record_before[..]), ("area", &area_before), ("table", table)];
@@ -138,15 +138,15 @@ impl Beside {
 /// What differs in one call.
 struct Report {
     call: &'static str,
-    answer: u32,
+    answer: u64,
     text: String,
 }
 
 impl Report {
-    fn new(call: &'static str, answer: u32, expected: u32) -> Report {
+    fn new(call: &'static str, answer: u64, expected: u64) -> Report {
         let mut report = Report { call, answer, text: String::new() };
         if answer != expected {
-            let (answer, expected) = (answer.to_le_bytes(), expected.to_le_bytes());
+            let (answer, expected) = (calls::fields(answer), calls::fields(expected));
             report.differs(&format!("answer {answer:?}, reference {expected:?} (number, value, actions, rows)"));
         }
         report

@@ -1,7 +1,7 @@
 //! The library's C interface (include/lemondarts.h), with slices for pointers and lengths.
 
 extern "C" {
-    fn lemondarts_load(table: *const u8, table_len: usize) -> u32;
+    fn lemondarts_load(table: *const u8, table_len: usize) -> u64;
     fn lemondarts_compile(
         sheet: *const u8,
         sheet_len: usize,
@@ -11,8 +11,8 @@ extern "C" {
         work_len: usize,
         values: *mut u64,
         values_len: usize,
-    ) -> u32;
-    fn lemondarts_new_board(record: *mut u8, record_len: usize, area: *mut u8, area_len: usize) -> u32;
+    ) -> u64;
+    fn lemondarts_new_board(record: *mut u8, record_len: usize, area: *mut u8, area_len: usize) -> u64;
     fn lemondarts_put_on(
         record: *mut u8,
         record_len: usize,
@@ -21,16 +21,16 @@ extern "C" {
         place: usize,
         table: *const u8,
         table_len: usize,
-    ) -> u32;
-    fn lemondarts_take_off(record: *mut u8, record_len: usize, area: *mut u8, area_len: usize, place: usize) -> u32;
-    fn lemondarts_action(record: *mut u8, record_len: usize, area: *mut u8, area_len: usize, action: usize) -> u32;
+    ) -> u64;
+    fn lemondarts_take_off(record: *mut u8, record_len: usize, area: *mut u8, area_len: usize, place: usize) -> u64;
+    fn lemondarts_action(record: *mut u8, record_len: usize, area: *const u8, area_len: usize, action: usize) -> u64;
 }
 
-pub fn load(table: &[u8]) -> u32 {
+pub fn load(table: &[u8]) -> u64 {
     unsafe { lemondarts_load(table.as_ptr(), table.len()) }
 }
 
-pub fn compile(sheet: &[u8], out: &mut [u8], work: &mut [u8], values: &mut [u64]) -> u32 {
+pub fn compile(sheet: &[u8], out: &mut [u8], work: &mut [u8], values: &mut [u64]) -> u64 {
     unsafe {
         lemondarts_compile(
             sheet.as_ptr(),
@@ -45,11 +45,11 @@ pub fn compile(sheet: &[u8], out: &mut [u8], work: &mut [u8], values: &mut [u64]
     }
 }
 
-pub fn new_board(record: &mut [u8], area: &mut [u8]) -> u32 {
+pub fn new_board(record: &mut [u8], area: &mut [u8]) -> u64 {
     unsafe { lemondarts_new_board(record.as_mut_ptr(), record.len(), area.as_mut_ptr(), area.len()) }
 }
 
-pub fn put_on(record: &mut [u8], area: &mut [u8], place: usize, table: &[u8]) -> u32 {
+pub fn put_on(record: &mut [u8], area: &mut [u8], place: usize, table: &[u8]) -> u64 {
     unsafe {
         lemondarts_put_on(
             record.as_mut_ptr(),
@@ -63,10 +63,10 @@ pub fn put_on(record: &mut [u8], area: &mut [u8], place: usize, table: &[u8]) ->
     }
 }
 
-pub fn take_off(record: &mut [u8], area: &mut [u8], place: usize) -> u32 {
+pub fn take_off(record: &mut [u8], area: &mut [u8], place: usize) -> u64 {
     unsafe { lemondarts_take_off(record.as_mut_ptr(), record.len(), area.as_mut_ptr(), area.len(), place) }
 }
 
-pub fn action(record: &mut [u8], area: &mut [u8], action: usize) -> u32 {
-    unsafe { lemondarts_action(record.as_mut_ptr(), record.len(), area.as_mut_ptr(), area.len(), action) }
+pub fn action(record: &mut [u8], area: &[u8], action: usize) -> u64 {
+    unsafe { lemondarts_action(record.as_mut_ptr(), record.len(), area.as_ptr(), area.len(), action) }
 }

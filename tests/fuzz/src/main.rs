@@ -9,7 +9,7 @@ mod library;
 use beside::{Beside, Call, Outcome};
 use boards::{about, any_board, number};
 use reference::board::{AREA, PLACES, RECORD};
-use reference::calls::{VALUES, WORK};
+use reference::calls::{fields, VALUES, WORK};
 use reference::generate::Random;
 use reference::inputs::sheets::any_sheet;
 use reference::inputs::tables::Pool;
@@ -27,7 +27,7 @@ struct Fuzz {
     pool: Pool,
     sorts: BTreeMap<&'static str, usize>,
     /// By call and number of the answer.
-    answers: BTreeMap<(&'static str, u8), usize>,
+    answers: BTreeMap<(&'static str, u16), usize>,
     calls: usize,
     disagreements: usize,
 }
@@ -37,7 +37,7 @@ impl Fuzz {
         self.calls += 1;
         *self.sorts.entry(sort).or_default() += 1;
         match outcome {
-            Ok(answer) => *self.answers.entry((call, answer as u8)).or_default() += 1,
+            Ok(answer) => *self.answers.entry((call, answer as u16)).or_default() += 1,
             Err(text) => {
                 self.disagreements += 1;
                 println!("disagreement {}, call {}, {sort}, {text}", self.disagreements, self.calls);
@@ -51,7 +51,7 @@ impl Fuzz {
         let short = lengths[0] < LARGEST || lengths[1] < WORK || lengths[2] < VALUES;
         let (outcome, out) = self.beside.compile(&mut self.random, &sheet, lengths);
         if let Ok(answer) = &outcome {
-            let [number, _, actions, rows] = answer.to_le_bytes();
+            let [number, _, actions, rows] = fields(*answer);
             if number == 0 {
                 self.pool.keep(&mut self.random, &out[..8 + actions as usize * rows as usize]);
             }

@@ -9,6 +9,7 @@ use lib.Seq.{take-all}
 use Rattle.compiler.specs.Calling.{answerOf}
 use Rattle.sheet_text.specs.SheetText.{PrintsAnswer}
 use Rattle.sheet_text.proofs.Sheets.{into-printed}
+use Rattle.printing.specs.Printing.{outcomeOf}
 use borrow.Author.Needs.{needs}
 use Rattle.sheet_text.proofs.print_sheet.Statement.{statement}
 use Rattle.sheet_text.proofs.print_sheet.Tie as tie
@@ -21,7 +22,7 @@ returns c =
     let area : List ℕ = compiled .compile .last .1 .0 in
     into-printed (record { output = omega arith; bytes = omega arith; numbers = omega arith }) (compiled .compile .ensures)
     (subst
-    (λ (l : List ℕ). PrintsAnswer l (start .args .text .now) (answerOf (compiled .compile .result)) (printed .print-answer .result) (printed .print-answer .last .1 .1 .0))
+    (λ (l : List ℕ). PrintsAnswer l (start .args .text .now) (answerOf (compiled .compile .result)) (outcomeOf (printed .print-answer .result)) (printed .print-answer .last .1 .1 .0))
     (take-all 1024 (drop 8 area) (omega (arith, length-drop 8 area)))
     (printed .print-answer .ensures))
 

@@ -37,29 +37,32 @@ abbrev μ-loop : tie.MeasureT-loop
 loop-holds : tie.Need-loop-holds Inv-loop2 μ-loop2 Inv-loop μ-loop
 loop-holds c = (omega arith, omega arith, stored-none _ _ _)
 
--- the entries of any class lie within the list
-module _ (z : tie.Start Inv-loop2 μ-loop2 Inv-loop μ-loop) (x : ℕ) (h : x < z .args .count) where
-  row-fits : Fits w64 (firstOf (z .args .firsts .now) x * z .args .actions)
-  row-fits = omega (arith, z .pre .inside x h)
+-- the entries of the first member of a class lie within the list
+module _ (z : tie.Start Inv-loop2 μ-loop2 Inv-loop μ-loop) (x : ℕ) (h : x < z .args .count) (first : ℕ) (e : first ≡ firstOf (z .args .firsts .now) x) where
+  row-fits : Fits w64 (first * z .args .actions)
+  row-fits = rw e (omega (arith, z .pre .inside x h))
 
   module _ (y : ℕ) (g : y < z .args .actions) where
-    entry-inside : firstOf (z .args .firsts .now) x * z .args .actions + y < length (z .args .next .now)
-    entry-inside = omega (arith, z .pre .inside x h)
+    entry-inside : first * z .args .actions + y < length (z .args .next .now)
+    entry-inside = rw e (omega (arith, z .pre .inside x h))
 
-    entry-fits : Fits w64 (firstOf (z .args .firsts .now) x * z .args .actions + y)
+    entry-fits : Fits w64 (first * z .args .actions + y)
     entry-fits = omega (arith, entry-inside)
 
-mul-from-2 : tie.Need-mul-from-2 Inv-loop2 μ-loop2 Inv-loop μ-loop
-mul-from-2 c = row-fits (c .before .before .before .before .before .before .before) _ (omega arith)
+first-of-requires : tie.Need-first-of-requires Inv-loop2 μ-loop2 Inv-loop μ-loop
+first-of-requires c κs = omega (arith, c .before .before .before .before .before .before .pre .listed)
+
+mul-from : tie.Need-mul-from Inv-loop2 μ-loop2 Inv-loop μ-loop
+mul-from c = row-fits (c .before .before .before .before .before .before .before) _ (omega arith) _ (c .first-of .ensures)
 
 loop2-holds : tie.Need-loop2-holds Inv-loop2 μ-loop2 Inv-loop μ-loop
 loop2-holds c = (omega arith, omega arith, λ old room s. s)
 
 -- the class behind an action of a row is that entry of the quotient
-entry-of : (next classes firsts : List ℕ) {actions k : ℕ} (row : ℕ) {action : ℕ} → k ≡ row * actions + action → action < actions
-    → classOf classes (getD next (firstOf firsts row * actions + action) 0) ≡ quotientEntry actions next classes firsts k
-entry-of next classes firsts {actions} row e h =
-    rw e (ap₂ (λ (x y : ℕ). classOf classes (getD next (firstOf firsts x * actions + y) 0)) (sym (digits-div row h)) (sym (digits-mod row h)))
+entry-of : (next classes firsts : List ℕ) {actions k : ℕ} (first row : ℕ) {action : ℕ} → first ≡ firstOf firsts row → k ≡ row * actions + action
+    → action < actions → classOf classes (getD next (first * actions + action) 0) ≡ quotientEntry actions next classes firsts k
+entry-of next classes firsts {actions} first row f e h =
+    rw (f, e) (ap₂ (λ (x y : ℕ). classOf classes (getD next (firstOf firsts x * actions + y) 0)) (sym (digits-div row h)) (sym (digits-mod row h)))
 
 -- in a row
 module _ (c : tie.At-loop2 Inv-loop2 μ-loop2 Inv-loop μ-loop) where
@@ -75,6 +78,9 @@ module _ (c : tie.At-loop2 Inv-loop2 μ-loop2 Inv-loop μ-loop) where
   row-below : turn .loop .row < start .args .count
   row-below = c .before .before .loop-test .taken
 
+  first-member : c .before .first-of .result ≡ firstOf (start .args .firsts .now) (turn .loop .row)
+  first-member = c .before .first-of .ensures
+
   so-far : Stored entry (start .args .count * start .args .actions) (start .args .out .now) (c .loop2 .out) (c .loop2 .k)
   so-far = c .loop2 .inv .2 (start .args .out .now) (start .pre .room) (turn .loop .inv .2)
 
@@ -86,10 +92,12 @@ module _ (c : tie.At-loop2 Inv-loop2 μ-loop2 Inv-loop μ-loop) where
     k-below = omega (arith, place, digits-lt row-below h)
 
 add-class-behind : tie.Need-add-class-behind Inv-loop2 μ-loop2 Inv-loop μ-loop
-add-class-behind c = entry-fits (start (c .before)) _ (omega (arith, row-below (c .before))) _ (c .loop2-test .taken)
+add-class-behind c =
+    entry-fits (start (c .before)) _ (omega (arith, row-below (c .before))) _ (first-member (c .before)) _ (c .loop2-test .taken)
 
 class-behind-requires : tie.Need-class-behind-requires Inv-loop2 μ-loop2 Inv-loop μ-loop
-class-behind-requires c κs = entry-inside (start (c .before)) _ (omega (arith, row-below (c .before))) _ (c .loop2-test .taken)
+class-behind-requires c κs =
+    entry-inside (start (c .before)) _ (omega (arith, row-below (c .before))) _ (first-member (c .before)) _ (c .loop2-test .taken)
 
 slice-write-out : tie.Need-slice-write-out Inv-loop2 μ-loop2 Inv-loop μ-loop
 slice-write-out c = omega (arith, so-far (c .before .before) .sized, k-below (c .before .before) (c .before .loop2-test .taken))
@@ -104,7 +112,8 @@ loop2-again c =
       omega arith,
       omega arith,
       λ old room s. stored-more (c .before .before .loop2 .inv .2 old room s) (k-below (c .before .before) t) room
-          (c .class-behind .ensures ∙ entry-of (z .args .next .now) (z .args .classes .now) (z .args .firsts .now) _ (place (c .before .before) t) t),
+          (c .class-behind .ensures
+          ∙ entry-of (z .args .next .now) (z .args .classes .now) (z .args .firsts .now) _ _ (first-member (c .before .before)) (place (c .before .before) t) t),
     )
 
 add-row : tie.Need-add-row Inv-loop2 μ-loop2 Inv-loop μ-loop
@@ -135,9 +144,8 @@ quotient-spec =
     Inv-loop
     μ-loop
     loop-holds
-    (λ c. omega arith)
-    (λ c. omega arith)
-    mul-from-2
+    first-of-requires
+    mul-from
     loop2-holds
     add-class-behind
     class-behind-requires

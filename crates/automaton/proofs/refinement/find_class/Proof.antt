@@ -14,17 +14,17 @@ use Rattle.automaton.proofs.refinement.find_class.Statement.{statement}
 use Rattle.automaton.proofs.refinement.find_class.Tie as tie
 
 abbrev Inv-loop : tie.InvT-loop
-Inv-loop next classes firsts actions count s class row c₀ first first-row a₀ c a =
-    (c ≡ c₀) × (a ≤ actions) × ((k : ℕ) → k < a → behindOf actions next classes first k ≡ behindOf actions next classes s k)
+Inv-loop next classes firsts actions count s class row lowest c₀ first first-row a₀ c a =
+    (c ≡ c₀) × ((k : ℕ) → k < a → behindOf actions next classes first k ≡ behindOf actions next classes s k) × (a ≤ actions)
 
 abbrev μ-loop : tie.MeasureT-loop
-μ-loop next classes firsts actions count s class row c₀ first first-row a₀ c a = actions - a
+μ-loop next classes firsts actions count s class row lowest c₀ first first-row a₀ c a = actions - a
 
 abbrev Inv-rows : tie.InvT-rows
-Inv-rows next classes firsts actions count s class row c₀ c = (c ≤ count) × ((d : ℕ) → d < c → SameSignature actions next classes (firstOf firsts d) s → ⊥)
+Inv-rows next classes firsts actions count s class row lowest c₀ c = ((d : ℕ) → d < c → SameSignature actions next classes (firstOf firsts d) s → ⊥) × (c ≤ count)
 
 abbrev μ-rows : tie.MeasureT-rows
-μ-rows next classes firsts actions count s class row c₀ c = count - c
+μ-rows next classes firsts actions count s class row lowest c₀ c = count - c
 
 -- the entries of a state, of s, and of the first member of class c
 module _ (z : tie.Start Inv-loop μ-loop Inv-rows μ-rows) where
@@ -49,12 +49,12 @@ module _ (c : tie.In-rows Inv-loop μ-loop Inv-rows μ-rows) where
 
   -- The inner loop keeps c, so that what it finds is of class c: its first member differs from s, or has its signature.
   module _ (d : ℕ) (e : d ≡ c .before .rows .c) where
-    next-row : (Same (c .before .rows .c) → ⊥) → (d + 1 ≤ start .args .count) × ((k : ℕ) → k < d + 1 → Same k → ⊥)
-    next-row n = (omega arith, below-more _ _ (λ k h. c .before .rows .inv .1 k (omega arith)) (rw e n))
+    next-row : (Same (c .before .rows .c) → ⊥) → ((k : ℕ) → k < d + 1 → Same k → ⊥) × (d + 1 ≤ start .args .count)
+    next-row n = (below-more _ _ (λ k h. c .before .rows .inv .0 k (omega arith)) (rw e n), omega arith)
 
     found-at : Same (c .before .rows .c)
         → ClassFound (start .args .actions) (start .args .next .now) (start .args .classes .now) (start .args .firsts .now) (start .args .count) (start .args .s) d
-    found-at f = record { within = omega arith; here = λ h. rw e f; lowest = λ k h. c .before .rows .inv .1 k (omega arith) }
+    found-at f = record { within = omega arith; here = λ h. rw e f; lowest = λ k h. c .before .rows .inv .0 k (omega arith) }
 
 mul-row : tie.Need-mul-row Inv-loop μ-loop Inv-rows μ-rows
 mul-row c = omega (arith, state-within (c .before .before .before .before) _ (c .before .before .before .before .pre .state))
@@ -62,7 +62,7 @@ mul-row c = omega (arith, state-within (c .before .before .before .before) _ (c 
 rows-holds : tie.Need-rows-holds Inv-loop μ-loop Inv-rows μ-rows
 rows-holds c =
     let z = c .before .before .before .before in
-    (omega (arith, z .pre .begun), λ d h. none-lower (z .pre) d (omega arith))
+    (λ d h. none-lower (z .pre) d (omega arith), omega (arith, z .pre .begun))
 
 rows-again : tie.Need-rows-again Inv-loop μ-loop Inv-rows μ-rows
 rows-again c =
@@ -73,7 +73,7 @@ mul-first-row : tie.Need-mul-first-row Inv-loop μ-loop Inv-rows μ-rows
 mul-first-row c = omega (arith, first-within (c .before .before .before))
 
 loop-holds : tie.Need-loop-holds Inv-loop μ-loop Inv-rows μ-rows
-loop-holds c = (refl, omega arith, λ k h. absurd (omega arith))
+loop-holds c = (refl, λ k h. absurd (omega arith), omega arith)
 
 add-class-behind : tie.Need-add-class-behind Inv-loop μ-loop Inv-rows μ-rows
 add-class-behind c = omega (arith, first-within (c .before .before .before .before .before))
@@ -95,7 +95,7 @@ rows-again-2 c =
     (λ e. c .if2 .taken (c .before .before .class-behind .ensures ∙ e .behind (v .a) (c .before .before .before .loop-test .taken) ∙ sym (c .before .class-behind2 .ensures)))
 
 loop-again : tie.Need-loop-again Inv-loop μ-loop Inv-rows μ-rows
-loop-again c = (c .before .before .before .before .loop .inv .0, omega arith, below-more _ _ (c .before .before .before .before .loop .inv .2) (cc))
+loop-again c = (c .before .before .before .before .loop .inv .0, below-more _ _ (c .before .before .before .before .loop .inv .1) (cc), omega arith)
 
 returns : tie.Need-returns Inv-loop μ-loop Inv-rows μ-rows
 returns c =
@@ -104,13 +104,13 @@ returns c =
     found-at r (v .c) (v .inv .0)
     (record {
       class = sym (c .before .before .before .class-of2 .ensures) ∙ c .before .before .if1 .left ∙ r .before .before .class-of .ensures;
-      behind = λ k h. v .inv .2 k (omega arith);
+      behind = λ k h. v .inv .1 k (omega arith);
     })
 
 returns-2 : tie.Need-returns-2 Inv-loop μ-loop Inv-rows μ-rows
 returns-2 c =
     let v = c .before .rows in
-    record { within = omega arith; here = λ h. absurd (omega arith); lowest = λ d h. v .inv .1 d (omega arith) }
+    record { within = omega arith; here = λ h. absurd (omega arith); lowest = λ d h. v .inv .0 d (omega arith) }
 
 pub find-class-spec : {M : Type 1} → statement M
 find-class-spec =

@@ -5,9 +5,11 @@ use mathlib.Core.Bool.{Bool, true, false}
 use mathlib.Core.List.{List}
 use Prim.Native.Nat.{ℕ}
 use native.Mathlib.Omega.{arith}
+use Rattle.board.specs.Layout.{placeCount, Within}
 use Rattle.board.specs.Places.{caseAt, taken}
+use Rattle.board.specs.View.{viewOf}
 use Rattle.board.specs.Possible.{Possible}
-use Rattle.board.specs.Survey.{Within, isImpossible}
+use Rattle.board.specs.Survey.{isImpossible}
 use Rattle.board.specs.declared.Board.{Board}
 use Rattle.board.proofs.Surveying.{cannot-be, can-be}
 use borrow.Author.Needs.{needs}
@@ -15,11 +17,11 @@ use Rattle.board.proofs.calls.look_at.Statement.{statement}
 use Rattle.board.proofs.calls.look_at.Tie as tie
 
 module _ (c : tie.After-taken) where
-  abbrev survey-at : tie.After-survey
-  survey-at = c .before .before .before
+  abbrev scan-at : tie.After-scan
+  scan-at = c .before .before .before
 
   abbrev start : tie.Start
-  start = survey-at .before .before .before .before
+  start = scan-at .before .before .before .before
 
   abbrev board : Board
   board = start .args .board
@@ -30,7 +32,7 @@ module _ (c : tie.After-taken) where
   within : Within area (start .args .place)
   within = record { whole = omega arith; below = omega arith }
 
-  tested : (b : Bool) → c .before .before .impossible .result ≡ b → isImpossible (survey-at .survey .result) ≡ b
+  tested : (b : Bool) → c .before .before .impossible .result ≡ b → isImpossible (scan-at .scan .result .found) ≡ b
   tested b e = sym (c .before .before .impossible .ensures) ∙ e
 
   on : (b : Bool) → c .taken .result ≡ b → taken (caseAt board (start .args .place)) ≡ b
@@ -38,8 +40,8 @@ module _ (c : tie.After-taken) where
 
 -- a board that can be
 module _ (c : tie.Else3) where
-  possible : Possible (board (c .before)) (area (c .before))
-  possible = can-be _ _ (survey-at (c .before) .survey .result) (survey-at (c .before) .survey .ensures) (tested (c .before) false (c .if3 .left))
+  possible : Possible placeCount (viewOf (board (c .before)) (area (c .before)))
+  possible = can-be _ _ (scan-at (c .before) .scan .result .found) (scan-at (c .before) .scan .ensures .surveys) (tested (c .before) false (c .if3 .left))
 
 returns : tie.Need-returns
 returns c = search needs
@@ -47,8 +49,8 @@ returns c = search needs
 returns-2 : tie.Need-returns-2
 returns-2 c = search needs
 
-survey-requires : tie.Need-survey-requires
-survey-requires c κs = search needs
+scan-requires : tie.Need-scan-requires
+scan-requires c κs = search needs
 
 impossible-requires : tie.Need-impossible-requires
 impossible-requires c κs = search needs
@@ -62,7 +64,7 @@ taken-requires c κs = search needs
 returns-3 : tie.Need-returns-3
 returns-3 c =
     let t = c .before in
-    (within t, cannot-be _ _ (survey-at t .survey .result) (survey-at t .survey .ensures) (tested t true (c .if3 .taken)))
+    (within t, cannot-be _ _ (scan-at t .scan .result .found) (scan-at t .scan .ensures .surveys) (tested t true (c .if3 .taken)))
 
 returns-4 : tie.Need-returns-4
 returns-4 c = record { within = within (c .before .before); possible = possible (c .before); on = on (c .before .before) true (c .if4 .taken) }
@@ -70,7 +72,7 @@ returns-4 c = record { within = within (c .before .before); possible = possible 
 returns-5 : tie.Need-returns-5
 returns-5 c =
     let t = c .before .before in
-    record { within = within t; possible = possible (c .before); free = on t false (c .if4 .left); surveyed = survey-at t .survey .ensures }
+    record { within = within t; possible = possible (c .before); free = on t false (c .if4 .left); surveyed = scan-at t .scan .ensures .surveys }
 
 pub look-at-spec : {M : Type 1} → statement M
 look-at-spec =
@@ -78,7 +80,7 @@ look-at-spec =
     (tie.spec
     returns
     returns-2
-    survey-requires
+    scan-requires
     impossible-requires
     case-at-requires
     taken-requires

@@ -7,6 +7,7 @@ use native.Mathlib.Omega.{arith}
 use lib.ListN.{drop}
 use lib.Seq.{length-take-le}
 use Rattle.board.specs.Calls.{Makes, made, make-14, done, input}
+use Rattle.board.specs.Layout.{areaLength}
 use Rattle.board.specs.Places.{emptyBoard}
 use Rattle.board.specs.declared.Board.{Board}
 use Rattle.board.proofs.Written.{cleared-front}
@@ -26,7 +27,7 @@ slice-relend-prefix-clear : tie.Need-slice-relend-prefix-clear
 slice-relend-prefix-clear c = search needs
 
 slice-aggregate-clear : tie.Need-slice-aggregate-clear
-slice-aggregate-clear c = sym (length-take-le 8256 (c .before .before .before .before .args .area .now) (omega arith))
+slice-aggregate-clear c = sym (length-take-le areaLength (c .before .before .before .before .args .area .now) (omega arith))
 
 clear-requires : tie.Need-clear-requires
 clear-requires c κs = search needs
@@ -39,9 +40,9 @@ returns-2 c =
     let z = c .before .before in
     let e = z .before .before .before in
     let area = e .before .before .args .area .now in
-    let zeroed = cleared-front 8256 area (z .clear .last .0) (omega arith) (z .clear .ensures) in
-    subst (λ (b : Board). Makes area done b (z .clear .last .0 ++ drop 8256 area)) (sym (e .empty-board .ensures))
-    (subst (λ (l : List ℕ). Makes area done emptyBoard (l ++ drop 8256 area)) (sym zeroed) (made (omega arith)))
+    let zeroed = cleared-front areaLength area (z .clear .last .0) (omega arith) (z .clear .ensures) in
+    subst (λ (b : Board). Makes area done b (z .clear .last .0 ++ drop areaLength area)) (sym (e .empty-board .ensures))
+    (subst (λ (l : List ℕ). Makes area done emptyBoard (l ++ drop areaLength area)) (sym zeroed) (made (omega arith)))
 
 pub new-board-spec : {M : Type 1} → statement M
 new-board-spec =

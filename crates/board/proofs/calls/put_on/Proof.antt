@@ -1,7 +1,8 @@
 -- `board::calls::put_on` meets its contract: what is found at the place, and what `put_table` answers.
 -- Assumes nothing.
-use mathlib.Core.Path.{_≡_, subst}
-use Rattle.board.specs.Calls.{put-14, put-13, put-25, put-22}
+use mathlib.Core.Path.{_≡_, refl, subst}
+use Rattle.board.specs.Calls.{short, called, put-13, put-25, put-22}
+use Rattle.board.specs.View.{stays}
 use Rattle.board.specs.Targets.{Looks}
 use Rattle.board.specs.declared.calls.Target.{Target}
 use borrow.Author.Needs.{needs}
@@ -40,7 +41,7 @@ same-length : tie.Need-same-length
 same-length c = search needs
 
 returns : tie.Need-returns
-returns c = put-14 (looks (c .before .before) _ (c .enum-told .given .1))
+returns c = short (looks (c .before .before) _ (c .enum-told .given .1)) refl refl refl
 
 same-length-2 : tie.Need-same-length-2
 same-length-2 c = search needs
@@ -48,7 +49,7 @@ same-length-2 c = search needs
 returns-2 : tie.Need-returns-2
 returns-2 c =
     let l = looks (c .before .before) _ (c .enum-told2 .given .1) in
-    put-13 (l .0) (l .1)
+    called (l .0) stays (put-13 (l .1)) refl refl
 
 same-length-3 : tie.Need-same-length-3
 same-length-3 c = search needs
@@ -56,7 +57,7 @@ same-length-3 c = search needs
 returns-3 : tie.Need-returns-3
 returns-3 c =
     let l = looks (c .before .before) _ (c .enum-told3 .given .1) in
-    put-25 (l .0 .whole) (l .0 .below) (l .1)
+    called (l .0 .whole) stays (put-25 (l .0 .below) (l .1)) refl refl
 
 same-length-4 : tie.Need-same-length-4
 same-length-4 c = search needs
@@ -64,7 +65,7 @@ same-length-4 c = search needs
 returns-4 : tie.Need-returns-4
 returns-4 c =
     let l = looks (c .before .before) _ (c .enum-told4 .given .1) in
-    put-22 (l .within .whole) (l .within .below) (l .possible) (l .on)
+    called (l .within .whole) stays (put-22 (l .within .below) (l .possible) (l .on)) refl refl
 
 same-length-5 : tie.Need-same-length-5
 same-length-5 c = search needs

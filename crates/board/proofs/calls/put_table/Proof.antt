@@ -1,12 +1,14 @@
 -- `board::calls::put_table` meets its contract, one way out of `PutsOn` for each answer.
 -- Assumes nothing.
-use mathlib.Core.Path.{_≡_, sym, _∙_, ap, subst}
+use mathlib.Core.Path.{_≡_, refl, sym, _∙_, ap, subst}
 use mathlib.Core.List.{List}
 use Prim.Native.Nat.{ℕ}
 use Rattle.table.specs.declared.Loaded.{Loaded}
 use Rattle.table.specs.Answer.{modeNumber, answerOf, accepted, Loads}
+use Rattle.board.specs.Layout.{placeCount}
 use Rattle.board.specs.Places.{withCase}
-use Rattle.board.specs.Calls.{PutsOn, put-refused, put-23, put, done, firstCase}
+use Rattle.board.specs.View.{viewOf, stays, sets}
+use Rattle.board.specs.Calls.{called, put-refused, put-23, put, firstCase}
 use Rattle.board.specs.Targets.{EmptyTarget}
 use Rattle.board.specs.declared.Board.{Board}
 use Rattle.board.specs.declared.Case.{Case}
@@ -73,13 +75,13 @@ returns : tie.Need-returns
 returns c =
     let l = c .before .before in
     let e = start l .pre in
-    put-refused (e .within .whole) (e .within .below) (e .possible) (e .free) 10 (answers l _ (c .enum-told .given .1))
+    called (e .within .whole) stays (put-refused (e .within .below) (e .possible) (e .free) 10 (answers l _ (c .enum-told .given .1))) refl refl
 
 returns-2 : tie.Need-returns-2
 returns-2 c =
     let l = c .before .before in
     let e = start l .pre in
-    put-refused (e .within .whole) (e .within .below) (e .possible) (e .free) 11 (answers l _ (c .enum-told2 .given .1))
+    called (e .within .whole) stays (put-refused (e .within .below) (e .possible) (e .free) 11 (answers l _ (c .enum-told2 .given .1))) refl refl
 
 same-length : tie.Need-same-length
 same-length c = search needs
@@ -94,10 +96,10 @@ returns-3 c =
     let e = start l .pre in
     let place = start l .args .place in
     let next = c .with-case .ensures ∙ ap (λ (x : Case). withCase (board l) place x) (c .before .first-case .ensures) in
-    subst (λ (b : Board). PutsOn (board l) (area l) place (table l) done b (z .write-place .last .0)) (sym next)
-    (subst (λ (x : List ℕ). PutsOn (board l) (area l) place (table l) done (withCase (board l) place (firstCase (modeNumber (m .mode .given .0 .0)))) x) (sym (z .write-place .ensures))
-    (put (e .within .whole) (e .within .below) (e .possible) (e .free) _ _ _ (loads m)
-    (same-actions (board l) (area l) (start l .args .found) (actions m) (e .surveyed) (sym (a .admits .ensures) ∙ t .if1 .taken))))
+    called (e .within .whole) (sets place (firstCase (modeNumber (m .mode .given .0 .0))) (table l))
+    (put (e .within .below) (e .possible) (e .free) _ _ _ (loads m)
+    (same-actions placeCount (viewOf (board l) (area l)) (start l .args .found) (actions m) (e .surveyed) (sym (a .admits .ensures) ∙ t .if1 .taken)))
+    next (z .write-place .ensures)
 
 returns-4 : tie.Need-returns-4
 returns-4 c =
@@ -105,8 +107,10 @@ returns-4 c =
     let m = a .before .before in
     let l = loaded m in
     let e = start l .pre in
-    put-23 (e .within .whole) (e .within .below) (e .possible) (e .free) _ _ _ (loads m)
-    (other-actions (board l) (area l) (start l .args .found) (actions m) (e .surveyed) (e .possible) (sym (a .admits .ensures) ∙ c .if1 .left))
+    called (e .within .whole) stays
+    (put-23 (e .within .below) (e .possible) (e .free) _ _ _ (loads m)
+    (other-actions placeCount (viewOf (board l) (area l)) (start l .args .found) (actions m) (e .surveyed) (e .possible) (sym (a .admits .ensures) ∙ c .if1 .left)))
+    refl refl
 
 pub put-table-spec : {M : Type 1} → statement M
 put-table-spec =

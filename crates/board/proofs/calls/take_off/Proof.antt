@@ -1,10 +1,11 @@
 -- `board::calls::take_off` meets its contract, one way out of `TakesOff` for each answer.
 -- Assumes nothing.
-use mathlib.Core.Path.{_≡_, sym, subst}
-use mathlib.Core.List.{List}
+use mathlib.Core.Path.{_≡_, refl, subst}
+use mathlib.Core.List.{List, []}
 use Prim.Native.Nat.{ℕ}
-use Rattle.board.specs.Places.{withCase}
-use Rattle.board.specs.Calls.{TakesOff, take-14, take-13, take-25, take-21, taken-off, done}
+use native.Mathlib.Omega.{arith}
+use Rattle.board.specs.Calls.{short, called, take-13, take-25, take-21, taken-off}
+use Rattle.board.specs.View.{stays, sets}
 use Rattle.board.specs.Targets.{TakenTarget, Looks}
 use Rattle.board.specs.declared.Board.{Board}
 use Rattle.board.specs.declared.Case.the-variants.{Empty}
@@ -52,17 +53,20 @@ enum-told-4 c = search needs
 enum-told-5 : tie.Need-enum-told-5
 enum-told-5 c = search needs
 
-clear-place-requires : tie.Need-clear-place-requires
-clear-place-requires c κs = target (c .before) .within
+slice-aggregate-write-place : tie.Need-slice-aggregate-write-place
+slice-aggregate-write-place c = search needs
+
+write-place-requires : tie.Need-write-place-requires
+write-place-requires c κs = (target (c .before .before) .within, omega arith)
 
 with-case-requires : tie.Need-with-case-requires
-with-case-requires c κs = target (c .before .before .before .before) .within .below
+with-case-requires c κs = target (c .before .before .before .before .before) .within .below
 
 same-length : tie.Need-same-length
 same-length c = search needs
 
 returns : tie.Need-returns
-returns c = take-14 (looks (c .before .before) _ (c .enum-told .given .1))
+returns c = short (looks (c .before .before) _ (c .enum-told .given .1)) refl refl refl
 
 same-length-2 : tie.Need-same-length-2
 same-length-2 c = search needs
@@ -70,7 +74,7 @@ same-length-2 c = search needs
 returns-2 : tie.Need-returns-2
 returns-2 c =
     let l = looks (c .before .before) _ (c .enum-told2 .given .1) in
-    take-13 (l .0) (l .1)
+    called (l .0) stays (take-13 (l .1)) refl refl
 
 same-length-3 : tie.Need-same-length-3
 same-length-3 c = search needs
@@ -78,7 +82,7 @@ same-length-3 c = search needs
 returns-3 : tie.Need-returns-3
 returns-3 c =
     let l = looks (c .before .before) _ (c .enum-told3 .given .1) in
-    take-25 (l .0 .whole) (l .0 .below) (l .1)
+    called (l .0 .whole) stays (take-25 (l .0 .below) (l .1)) refl refl
 
 same-length-4 : tie.Need-same-length-4
 same-length-4 c = search needs
@@ -86,7 +90,7 @@ same-length-4 c = search needs
 returns-4 : tie.Need-returns-4
 returns-4 c =
     let l = looks (c .before .before) _ (c .enum-told4 .given .1) in
-    take-21 (l .within .whole) (l .within .below) (l .possible) (l .free)
+    called (l .within .whole) stays (take-21 (l .within .below) (l .possible) (l .free)) refl refl
 
 same-length-5 : tie.Need-same-length-5
 same-length-5 c = search needs
@@ -94,12 +98,10 @@ same-length-5 c = search needs
 returns-5 : tie.Need-returns-5
 returns-5 c =
     let z = c .before .before .before in
-    let t = target (z .before .before) in
-    let w = looked (z .before .before) in
-    let place = start w .args .place in
-    subst (λ (b : Board). TakesOff (board w) (area w) place done b (z .clear-place .last .0)) (sym (c .with-case .ensures))
-    (subst (λ (l : List ℕ). TakesOff (board w) (area w) place done (withCase (board w) place Empty) l) (sym (z .clear-place .ensures))
-    (taken-off (t .within .whole) (t .within .below) (t .possible) (t .on)))
+    let w = z .before .before .before in
+    let t = target w in
+    called (t .within .whole) (sets (start (looked w) .args .place) Empty []) (taken-off (t .within .below) (t .possible) (t .on))
+    (c .with-case .ensures) (z .write-place .ensures)
 
 pub take-off-spec : {M : Type 1} → statement M
 take-off-spec =
@@ -111,7 +113,8 @@ take-off-spec =
     enum-told-3
     enum-told-4
     enum-told-5
-    clear-place-requires
+    slice-aggregate-write-place
+    write-place-requires
     with-case-requires
     same-length
     returns

@@ -5,8 +5,8 @@ use Rattle.board.proofs.Parts.{part-is}
 use Rattle.board.proofs.places.place_bytes.Statement.{statement}
 use Rattle.board.proofs.places.place_bytes.Tie as tie
 
-mul-from : tie.Need-mul-from
-mul-from c = search needs
+start-of-requires : tie.Need-start-of-requires
+start-of-requires c κs = search needs
 
 add-to : tie.Need-add-to
 add-to c = search needs
@@ -21,8 +21,11 @@ part-result-end : tie.Need-part-result-end
 part-result-end c = search needs
 
 returns : tie.Need-returns
-returns c = part-is (c .before .args .place) (c .before .args .area .now)
+returns c =
+    let f = c .before in
+    let g = f .before .before .args in
+    part-is (g .place) (g .area .now) (f .start-of .result) (f .start-of .ensures)
 
 pub place-bytes-spec : {M : Type 1} → statement M
 place-bytes-spec =
-    tie.close (tie.spec mul-from add-to sub-result part-result-start part-result-end returns)
+    tie.close (tie.spec start-of-requires add-to sub-result part-result-start part-result-end returns)

@@ -1,14 +1,18 @@
 -- `board::places::write_place` meets its contract.
 -- Assumes nothing.
-use Prim.Native.Nat.{_*_}
+use mathlib.Core.Path.{_∙_, ap}
+use mathlib.Core.List.{_++_}
+use Prim.Native.Nat.{ℕ, _+_, _-_}
+use lib.ListN.{length, take, drop, replicate}
 use native.Mathlib.Omega.{arith}
+use Rattle.board.specs.Layout.{placeLength}
 use Rattle.board.proofs.Written.{written-part}
 use borrow.Author.Needs.{needs}
 use Rattle.board.proofs.places.write_place.Statement.{statement}
 use Rattle.board.proofs.places.write_place.Tie as tie
 
-mul-from : tie.Need-mul-from
-mul-from c = search needs
+start-of-requires : tie.Need-start-of-requires
+start-of-requires c κs = search needs
 
 add-to : tie.Need-add-to
 add-to c = search needs
@@ -47,15 +51,19 @@ returns : tie.Need-returns
 returns c =
     let z = c .before .before in
     let w = z .before .before .before .before in
-    let start = w .before .before .before .before in
-    written-part (start .args .place * 1032) 1032 (start .args .area .now) (start .args .bytes .now) (w .copy .last .1 .0) (z .clear .last .0)
-    (omega (arith, start .pre .0 .whole, start .pre .0 .below)) (start .pre .1) (w .copy .ensures) (z .clear .ensures)
+    let f = w .before .before in
+    let start = f .before .before .before in
+    let g = start .args in
+    written-part (f .start-of .result) placeLength (g .area .now) (g .bytes .now) (w .copy .last .1 .0) (z .clear .last .0)
+    (omega (arith, start .pre .0 .whole, start .pre .0 .below, f .start-of .ensures)) (start .pre .1) (w .copy .ensures) (z .clear .ensures)
+    ∙ ap (λ (k : ℕ). take k (g .area .now) ++ ((g .bytes .now ++ replicate (placeLength - length (g .bytes .now)) 0) ++ drop (k + placeLength) (g .area .now)))
+    (f .start-of .ensures)
 
 pub write-place-spec : {M : Type 1} → statement M
 write-place-spec =
     tie.close
     (tie.spec
-    mul-from
+    start-of-requires
     add-to
     add-end
     sub-copy

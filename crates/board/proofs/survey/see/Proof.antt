@@ -1,6 +1,7 @@
 -- `board::survey::see` meets its contract, case by case.
 -- Assumes nothing.
-use Rattle.board.proofs.Seeing.{sees-enforced, sees-watched, sees-fulfilled}
+use Rattle.board.specs.Layout.{storedAt}
+use Rattle.board.proofs.Seeing.{reads-empty, reads-enforced, reads-watched, reads-fulfilled}
 use borrow.Author.Needs.{needs}
 use Rattle.board.proofs.survey.see.Statement.{statement}
 use Rattle.board.proofs.survey.see.Tie as tie
@@ -27,16 +28,18 @@ rule-at-requires-3 : tie.Need-rule-at-requires-3
 rule-at-requires-3 c κs = search needs
 
 returns : tie.Need-returns
-returns c = search needs
+returns c =
+    let g = c .before .before .before .args in
+    rw (c .enum-told .given .1) (reads-empty (storedAt (g .area .now) (g .place)) _ _)
 
 returns-2 : tie.Need-returns-2
-returns-2 c = rw (c .before .before .case .given .1) (sees-enforced _ _ (c .rule-at .result) (c .rule-at .ensures))
+returns-2 c = rw (c .before .before .case .given .1) (reads-enforced _ _ _ _ _ (c .rule-at .ensures))
 
 returns-3 : tie.Need-returns-3
-returns-3 c = rw (c .before .before .case2 .given .1) (sees-watched _ _ (c .rule-at2 .result) (c .rule-at2 .ensures))
+returns-3 c = rw (c .before .before .case2 .given .1) (reads-watched _ _ _ _ _ (c .rule-at2 .ensures))
 
 returns-4 : tie.Need-returns-4
-returns-4 c = rw (c .before .enum-told2 .given .1) (sees-fulfilled _ (c .rule-at3 .result) (c .rule-at3 .ensures))
+returns-4 c = rw (c .before .enum-told2 .given .1) (reads-fulfilled _ _ _ _ (c .rule-at3 .ensures))
 
 pub see-spec : {M : Type 1} → statement M
 see-spec =

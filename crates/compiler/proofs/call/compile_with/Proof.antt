@@ -15,7 +15,7 @@ returns : tie.Need-returns
 returns c =
     record {
       written = [];
-      compiles = faulted _ (judged-faulty _ _ (c .before .before .before .judge .ensures) (c .before .found .given .1));
+      compiles = faulted _ (judged-faulty _ _ _ _ (c .before .before .before .judge .ensures) (c .before .found .given .1));
       front = refl;
     }
 
@@ -25,7 +25,7 @@ module _ (c : tie.After-found2) where
   at = c .before .before
 
   judged : judge (at .before .before .before .before .before .args .sheet .now) ≡ sound (c .found2 .given .0 .0) (at .judge .result .sheet) (at .judge .result .types)
-  judged = judged-policy _ _ (at .judge .ensures) (c .found2 .given .1)
+  judged = judged-policy _ _ _ _ (at .judge .ensures) (c .found2 .given .1)
 
 build-table-requires : tie.Need-build-table-requires
 build-table-requires c κs =

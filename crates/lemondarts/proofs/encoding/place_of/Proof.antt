@@ -1,25 +1,26 @@
 -- `lemondarts::encoding::place_of` meets its contract.
 -- Assumes nothing.
-use Rattle.lemondarts.proofs.Decoding.{as-empty, as-enforced, as-watched, as-fulfilled, as-no-row}
+use mathlib.Core.Path.{_≡_}
+use mathlib.Core.Bool.{false}
+use Prim.Native.Nat.{ℕ, _≤_}
+use native.Mathlib.Omega.{arith}
+use lib.Dec.{eqb}
 use borrow.Author.Needs.{needs}
+use borrow.Author.Tests.{ne-eqb}
+use Rattle.board.specs.declared.Case.the-variants.{Enforced}
+use Rattle.lemondarts.specs.Record.{placeOf}
 use Rattle.lemondarts.proofs.encoding.place_of.Statement.{statement}
 use Rattle.lemondarts.proofs.encoding.place_of.Tie as tie
 
-returns : tie.Need-returns
-returns c = as-empty _ _ (c .if1 .taken)
+-- a case byte above 3 is none of the four
+unknown : (case row : ℕ) → 4 ≤ case → record { case = Enforced 255 } ≡ placeOf case row
+unknown case row h = rw (other 0 (omega arith), other 1 (omega arith), other 2 (omega arith), other 3 (omega arith))
+  where
+    other : (k : ℕ) → k ≤ 3 → eqb case k ≡ false
+    other k l = ne-eqb case k (λ e. omega arith)
 
 returns-2 : tie.Need-returns-2
-returns-2 c = as-enforced _ _ (c .if2 .taken)
-
-returns-3 : tie.Need-returns-3
-returns-3 c = as-watched _ _ (c .if3 .taken)
-
-returns-4 : tie.Need-returns-4
-returns-4 c = as-fulfilled _ _ (c .if4 .taken)
-
-returns-5 : tie.Need-returns-5
-returns-5 c = as-no-row _ _ (c .before .before .before .if1 .left) (c .before .before .if2 .left) (c .before .if3 .left) (c .if4 .left)
+returns-2 c = unknown (c .before .args .case) (c .before .args .row) (c .if1 .left)
 
 pub place-of-spec : {M : Type 1} → statement M
-place-of-spec =
-    tie.close (tie.spec returns returns-2 returns-3 returns-4 returns-5)
+place-of-spec = tie.close (tie.spec (λ c κs. search needs) (λ c. search needs) returns-2)

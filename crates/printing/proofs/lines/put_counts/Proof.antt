@@ -2,7 +2,7 @@
 -- Assumes nothing.
 use native.Mathlib.Omega.{arith}
 use Rattle.printing.proofs.Appending.{appends-then}
-use Rattle.printing.proofs.Lengths.{length-spaced}
+use Rattle.printing.proofs.Lengths.{length-spaced, length-counts}
 use borrow.Author.Needs.{needs}
 use Rattle.printing.proofs.lines.put_counts.Statement.{statement}
 use Rattle.printing.proofs.lines.put_counts.Tie as tie
@@ -14,7 +14,10 @@ put-requires : tie.Need-put-requires
 put-requires c κs = omega (arith, c .before .before .before .before .before .before .before .put-spaced .ensures .ends, c .before .before .before .before .before .before .before .put-spaced .ensures .sized, c .before .before .before .put-spaced2 .ensures .ends, c .before .before .before .put-spaced2 .ensures .sized, length-spaced (c .before .before .before .before .before .before .before .before .before .before .args .first), length-spaced (c .before .before .before .before .before .before .before .before .before .before .args .second))
 
 returns : tie.Need-returns
-returns c = appends-then (c .before .before .before .before .before .before .before .before .before .before .put-spaced .ensures) (appends-then (c .before .before .before .before .before .before .put-spaced2 .ensures) (c .before .before .put .ensures))
+returns c =
+    let start = c .before .before .before .before .before .before .before .before .before .before .before .before .before in
+    let all = appends-then (c .before .before .before .before .before .before .before .before .before .before .put-spaced .ensures) (appends-then (c .before .before .before .before .before .before .put-spaced2 .ensures) (c .before .before .put .ensures)) in
+    (all, omega (arith, all .ends, length-counts (start .args .first) (start .args .second)))
 
 pub put-counts-spec : {M : Type 1} → statement M
 put-counts-spec =

@@ -16,7 +16,7 @@ use Rattle.printing.proofs.lines.put_rows.Statement.{statement}
 use Rattle.printing.proofs.lines.put_rows.Tie as tie
 
 abbrev Inv-loop : tie.InvT-loop
-Inv-loop actions rows entries text₀ at end₀ row₀ text end row = (row ≤ rows) × Appends text₀ at (rowLines actions row entries) text end
+Inv-loop actions rows entries text₀ at end₀ row₀ text end row = Appends text₀ at (rowLines actions row entries) text end × (row ≤ rows)
 
 abbrev μ-loop : tie.MeasureT-loop
 μ-loop actions rows entries text₀ at end₀ row₀ text end row = rows - row
@@ -31,7 +31,7 @@ row-part row actions entries =
     ap (λ (n : ℕ). take n (drop (row * actions) entries)) e
 
 loop-holds : tie.Need-loop-holds Inv-loop μ-loop
-loop-holds c = (search needs, appends-none _ _)
+loop-holds c = (appends-none _ _, search needs)
 
 mul-from : tie.Need-mul-from Inv-loop μ-loop
 mul-from c = omega (arith, row-within (c .before .before .before .before .args .actions) (c .loop-test .taken), c .before .before .before .before .pre .1)
@@ -52,7 +52,7 @@ put-row-requires : tie.Need-put-row-requires Inv-loop μ-loop
 put-row-requires c κs =
     let start = c .before .before .before .before .before .before in
     let at = c .before .before .before .loop in
-    omega (arith, at .inv .1 .ends, at .inv .1 .sized, length-rows (start .args .actions) (at .row) (start .args .entries .now) (start .pre .0), length-take (at .row * start .args .actions + start .args .actions - at .row * start .args .actions) (drop (at .row * start .args .actions) (start .args .entries .now)), start .pre)
+    omega (arith, at .inv .0 .ends, at .inv .0 .sized, length-rows (start .args .actions) (at .row) (start .args .entries .now) (start .pre .0), length-take (at .row * start .args .actions + start .args .actions - at .row * start .args .actions) (drop (at .row * start .args .actions) (start .args .entries .now)), start .pre)
 
 add-row : tie.Need-add-row Inv-loop μ-loop
 add-row c = omega arith
@@ -62,13 +62,13 @@ loop-less c = omega arith
 
 loop-again : tie.Need-loop-again Inv-loop μ-loop
 loop-again c =
-    (search needs, rw (add-one _) (appends-then (c .before .before .before .before .before .before .loop .inv .1) (appends-as (ap rowLine (row-part (c .before .before .before .before .before .before .loop .row) (c .before .before .before .before .before .before .before .before .before .args .actions) (c .before .before .before .before .before .before .before .before .before .args .entries .now))) (c .before .before .put-row .ensures))))
+    (rw (add-one _) (appends-then (c .before .before .before .before .before .before .loop .inv .0) (appends-as (ap rowLine (row-part (c .before .before .before .before .before .before .loop .row) (c .before .before .before .before .before .before .before .before .before .args .actions) (c .before .before .before .before .before .before .before .before .before .args .entries .now))) (c .before .before .put-row .ensures))), search needs)
 
 same-length : tie.Need-same-length Inv-loop μ-loop
-same-length c = omega (arith, c .before .loop .inv .1 .sized)
+same-length c = omega (arith, c .before .loop .inv .0 .sized)
 
 returns : tie.Need-returns Inv-loop μ-loop
-returns c = let e : c .before .loop .row ≡ c .before .before .before .before .args .rows = omega arith in rw e at (c .before .loop .inv .1)
+returns c = let e : c .before .loop .row ≡ c .before .before .before .before .args .rows = omega arith in rw e at (c .before .loop .inv .0)
 
 pub put-rows-spec : {M : Type 1} → statement M
 put-rows-spec =

@@ -4,8 +4,7 @@ use mathlib.Core.Path.{sym, subst}
 use mathlib.Core.List.{List}
 use Prim.Native.Nat.{ℕ}
 use lib.ListN.{length}
-use Rattle.printing.specs.Printing.{Gives, fits, short}
-use Rattle.printing.specs.declared.Printed.the-variants.{Written}
+use Rattle.printing.specs.Printing.{wrote, Gives, fits, short}
 use native.Mathlib.Omega.{arith}
 use borrow.Author.Needs.{needs}
 use Rattle.printing.proofs.texts.give.Statement.{statement}
@@ -18,7 +17,7 @@ returns-2 : tie.Need-returns-2
 returns-2 c =
     let start = c .before .before .before .before .before .before .before in
     let written : List ℕ = start .args .written .now in
-    subst (λ (l : List ℕ). Gives written (start .args .text .now) (Written (length written)) l) (sym (c .before .before .copy .ensures)) (fits (omega arith))
+    subst (λ (l : List ℕ). Gives written (start .args .text .now) (wrote (length written)) l) (sym (c .before .before .copy .ensures)) (fits (omega arith))
 
 pub give-spec : {M : Type 1} → statement M
 give-spec =

@@ -4,7 +4,7 @@ use mathlib.Core.Path.{subst}
 use mathlib.Core.List.{List}
 use Prim.Native.Nat.{ℕ}
 use native.Mathlib.Omega.{arith}
-use Rattle.printing.specs.Printing.{Gives, out-of-range, in-range}
+use Rattle.printing.specs.Printing.{outcomeOf, Gives, out-of-range, in-range}
 use Rattle.printing.proofs.Appending.{front, within, counted}
 use Rattle.printing.proofs.Lengths.{length-refusal}
 use borrow.Author.Needs.{needs}
@@ -26,7 +26,7 @@ slice-aggregate-give c = counted (c .before .before .put-refusal .ensures)
 returns-3 : tie.Need-returns-3
 returns-3 c =
     in-range _ _ (record { number-high = search needs; spot-high = search needs })
-    (subst (λ (l : List ℕ). Gives l (c .before .before .before .before .before .before .before .before .before .before .before .before .args .text .now) (c .before .before .give .result) (c .before .before .give .last .1 .0)) (front (c .before .before .before .before .before .before .put-refusal .ensures)) (c .before .before .give .ensures))
+    (subst (λ (l : List ℕ). Gives l (c .before .before .before .before .before .before .before .before .before .before .before .before .args .text .now) (outcomeOf (c .before .before .give .result)) (c .before .before .give .last .1 .0)) (front (c .before .before .before .before .before .before .put-refusal .ensures)) (c .before .before .give .ensures))
 
 pub print-refusal-spec : {M : Type 1} → statement M
 print-refusal-spec =

@@ -5,7 +5,7 @@ use mathlib.Core.List.{List}
 use Prim.Native.Nat.{ℕ}
 use native.Mathlib.Nat.{mul-le-mul}
 use native.Mathlib.Omega.{arith}
-use Rattle.printing.specs.Printing.{Gives, out-of-range, in-range}
+use Rattle.printing.specs.Printing.{outcomeOf, Gives, out-of-range, in-range}
 use Rattle.printing.proofs.Appending.{front, within, counted}
 use Rattle.printing.proofs.Lengths.{length-table}
 use borrow.Author.Needs.{needs}
@@ -41,7 +41,7 @@ slice-aggregate-give c = counted (c .before .before .put-table .ensures)
 returns-6 : tie.Need-returns-6
 returns-6 c =
     in-range _ _ (record { actions-low = c .before .before .before .before .before .before .before .before .before .before .before .before .before .if1 .left; actions-high = c .before .before .before .before .before .before .before .before .before .before .before .before .if2 .left; rows-low = c .before .before .before .before .before .before .before .before .before .before .before .if3 .left; rows-high = c .before .before .before .before .before .before .before .before .before .before .if4 .left; enough = c .before .before .before .before .before .before .before .before .before .if5 .left })
-    (subst (λ (l : List ℕ). Gives l (c .before .before .before .before .before .before .before .before .before .before .before .before .before .before .before .before .args .text .now) (c .before .before .give .result) (c .before .before .give .last .1 .0)) (front (c .before .before .before .before .before .before .put-table .ensures)) (c .before .before .give .ensures))
+    (subst (λ (l : List ℕ). Gives l (c .before .before .before .before .before .before .before .before .before .before .before .before .before .before .before .before .args .text .now) (outcomeOf (c .before .before .give .result)) (c .before .before .give .last .1 .0)) (front (c .before .before .before .before .before .before .put-table .ensures)) (c .before .before .give .ensures))
 
 pub print-table-spec : {M : Type 1} → statement M
 print-table-spec =

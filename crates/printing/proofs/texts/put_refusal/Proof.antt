@@ -6,7 +6,7 @@ use Rattle.printing.proofs.texts.put_refusal.Statement.{statement}
 use Rattle.printing.proofs.texts.put_refusal.Tie as tie
 
 returns : tie.Need-returns
-returns c = appends-then (c .before .before .before .before .before .before .put-word .ensures) (c .before .before .put-counts .ensures)
+returns c = appends-then (c .before .before .before .before .before .before .put-word .ensures) (c .before .before .put-counts .ensures .0)
 
 pub put-refusal-spec : {M : Type 1} → statement M
 put-refusal-spec =

@@ -2,7 +2,7 @@
 -- Assumes nothing.
 use native.Mathlib.Omega.{arith}
 use Rattle.printing.proofs.Appending.{appends-then}
-use Rattle.printing.proofs.Lengths.{length-mode, length-counts}
+use Rattle.printing.proofs.Lengths.{length-mode}
 use borrow.Author.Needs.{needs}
 use Rattle.printing.proofs.texts.put_table.Statement.{statement}
 use Rattle.printing.proofs.texts.put_table.Tie as tie
@@ -14,11 +14,15 @@ put-counts-requires c κs =
 
 put-rows-requires : tie.Need-put-rows-requires
 put-rows-requires c κs =
-    let r = c .before .before .before .before .before .before .before .before .before .before .before .pre .0 in
-    omega (arith, c .before .before .before .before .before .before .before .put-mode .ensures .ends, c .before .before .before .before .before .before .before .put-mode .ensures .sized, c .before .before .before .put-counts .ensures .ends, c .before .before .before .put-counts .ensures .sized, length-mode (c .before .before .before .before .before .before .before .before .before .before .before .args .mode), length-counts (c .before .before .before .before .before .before .before .before .before .before .before .args .actions) (c .before .before .before .before .before .before .before .before .before .before .before .args .rows), r .actions-high, r .rows-high, r .enough)
+    let start = c .before .before .before .before .before .before .before .before .before .before .before in
+    let word = c .before .before .before .before .before .before .before .put-mode .ensures in
+    let line = c .before .before .before .put-counts .ensures in
+    omega (arith, word .ends, word .sized, line .0 .sized, length-mode (start .args .mode), start .pre .0 .rows-high, start .pre .0 .enough)
 
 returns : tie.Need-returns
-returns c = appends-then (c .before .before .before .before .before .before .before .before .before .before .put-mode .ensures) (appends-then (c .before .before .before .before .before .before .put-counts .ensures) (c .before .before .put-rows .ensures))
+returns c =
+    appends-then (c .before .before .before .before .before .before .before .before .before .before .put-mode .ensures)
+    (appends-then (c .before .before .before .before .before .before .put-counts .ensures .0) (c .before .before .put-rows .ensures))
 
 pub put-table-spec : {M : Type 1} → statement M
 put-table-spec =

@@ -19,7 +19,7 @@ enum-told c = search needs
 
 returns-2 : tie.Need-returns-2
 returns-2 c =
-    rw (eq-eqb _ 0 (c .before .before .before .before .if1 .left), ← rw (c .before .enum-told .given .1) at (c .before .before .before .row-move .ensures .0)) (search needs)
+    rw (eq-eqb _ 0 (c .before .before .before .before .if1 .left), ← rw (c .before .enum-told .given .1) at (c .before .before .before .row-move .ensures .0)) (c .marked-move2 .ensures)
 
 returns-3 : tie.Need-returns-3
 returns-3 c =

@@ -37,7 +37,7 @@ add-t22 c =
 
 returns-3 : tie.Need-returns-3
 returns-3 c =
-    rw (eq-eqb _ 0 (c .before .before .before .before .if2 .left), ← rw (c .before .enum-told .given .1) at (c .before .before .before .row-move .ensures .0)) (search needs)
+    rw (eq-eqb _ 0 (c .before .before .before .before .if2 .left), ← rw (c .before .enum-told .given .1) at (c .before .before .before .row-move .ensures .0)) (c .marked-move3 .ensures)
 
 returns-4 : tie.Need-returns-4
 returns-4 c =
@@ -47,7 +47,7 @@ returns-4 c =
       ← rw (c .before .before .before .q .given .1) at (c .before .before .before .before .before .row-move .ensures .0),
       le-leb (a .k) (a .value % 256 + 1) (omega arith),
     )
-    (search needs)
+    (c .marked-move4 .ensures)
 
 returns-5 : tie.Need-returns-5
 returns-5 c =

@@ -10,12 +10,10 @@ use Rattle.sheet.proofs.checks.judge_last.Statement.{statement}
 use Rattle.sheet.proofs.checks.judge_last.Tie as tie
 
 abbrev judged-as : tie.After-type-at → NodeType → JudgedSheet
-judged-as c t = judgedSheet (judgeLast (c .before .before .args .sheet) (c .before .before .args .types) t)
+judged-as c t = let start = c .before .before in judgedSheet (start .args .sheet) (start .args .types) (judgeLast (start .args .sheet) (start .args .types) t)
 
 returns : tie.Need-returns
-returns c =
-    let a = c .before .before .before in
-    c .refused .ensures ∙ ap (judged-as a) (sym (c .before .enum-told .given .1) ∙ a .type-at .ensures)
+returns c = let a = c .before .before in ap (judged-as a) (sym (c .enum-told .given .1) ∙ a .type-at .ensures)
 
 returns-2 : tie.Need-returns-2
 returns-2 c =
@@ -29,7 +27,6 @@ judge-last-spec =
     (λ c. search needs)
     (λ c κs. search needs)
     (λ c. search needs)
-    (λ c κs. search needs)
     (λ c. search needs)
     returns
     returns-2)

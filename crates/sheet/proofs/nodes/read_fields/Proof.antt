@@ -7,66 +7,6 @@ use Rattle.sheet.specs.declared.NodeRead.the-variants.{Known}
 use Rattle.sheet.proofs.nodes.read_fields.Statement.{statement}
 use Rattle.sheet.proofs.nodes.read_fields.Tie as tie
 
-returns : tie.Need-returns
-returns c = rw (c .before .match .keys1) (ap Known (c .no-part .ensures))
-
-returns-2 : tie.Need-returns-2
-returns-2 c = rw (c .before .match .keys2) (ap Known (c .no-part2 .ensures))
-
-returns-3 : tie.Need-returns-3
-returns-3 c = rw (c .before .match .keys3) (ap Known (c .argument-only .ensures))
-
-returns-4 : tie.Need-returns-4
-returns-4 c = rw (c .before .match .keys4) (ap Known (c .one-part .ensures))
-
-returns-5 : tie.Need-returns-5
-returns-5 c = rw (c .before .match .keys5) (ap Known (c .two-parts .ensures))
-
-returns-6 : tie.Need-returns-6
-returns-6 c = rw (c .before .match .keys6) (ap Known (c .two-parts2 .ensures))
-
-returns-7 : tie.Need-returns-7
-returns-7 c = rw (c .before .match .keys7) (ap Known (c .one-part2 .ensures))
-
-returns-8 : tie.Need-returns-8
-returns-8 c = rw (c .before .match .keys8) (ap Known (c .one-part3 .ensures))
-
-returns-9 : tie.Need-returns-9
-returns-9 c = rw (c .before .match .keys9) (ap Known (c .argument-only2 .ensures))
-
-returns-10 : tie.Need-returns-10
-returns-10 c = rw (c .before .match .keys10) (ap Known (c .one-part4 .ensures))
-
-returns-11 : tie.Need-returns-11
-returns-11 c = rw (c .before .match .keys11) (ap Known (c .two-parts3 .ensures))
-
-returns-12 : tie.Need-returns-12
-returns-12 c = rw (c .before .match .keys12) (ap Known (c .two-parts4 .ensures))
-
-returns-13 : tie.Need-returns-13
-returns-13 c = rw (c .before .match .keys13) (ap Known (c .one-part5 .ensures))
-
-returns-14 : tie.Need-returns-14
-returns-14 c = rw (c .before .match .keys14) (ap Known (c .one-part6 .ensures))
-
-returns-15 : tie.Need-returns-15
-returns-15 c = rw (c .before .match .keys15) (ap Known (c .two-parts5 .ensures))
-
-returns-16 : tie.Need-returns-16
-returns-16 c = rw (c .before .match .keys16) (ap Known (c .two-parts6 .ensures))
-
-returns-17 : tie.Need-returns-17
-returns-17 c = rw (c .before .match .keys17) (ap Known (c .two-parts7 .ensures))
-
-returns-18 : tie.Need-returns-18
-returns-18 c = rw (c .before .match .keys18) (ap Known (c .two-parts8 .ensures))
-
-returns-19 : tie.Need-returns-19
-returns-19 c = rw (c .before .match .keys19) (ap Known (c .three-parts .ensures))
-
-returns-20 : tie.Need-returns-20
-returns-20 c = rw (c .before .match .keys20) (ap Known (c .two-parts9 .ensures))
-
 returns-21 : tie.Need-returns-21
 returns-21 c =
     rw (
@@ -116,24 +56,24 @@ read-fields-spec =
     (λ c κs. search needs)
     (λ c κs. search needs)
     (λ c κs. search needs)
-    returns
-    returns-2
-    returns-3
-    returns-4
-    returns-5
-    returns-6
-    returns-7
-    returns-8
-    returns-9
-    returns-10
-    returns-11
-    returns-12
-    returns-13
-    returns-14
-    returns-15
-    returns-16
-    returns-17
-    returns-18
-    returns-19
-    returns-20
+    (λ c. rw (c .before .match .keys1) (ap Known (c .no-part .ensures)))
+    (λ c. rw (c .before .match .keys2) (ap Known (c .no-part2 .ensures)))
+    (λ c. rw (c .before .match .keys3) (ap Known (c .argument-only .ensures)))
+    (λ c. rw (c .before .match .keys4) (ap Known (c .one-part .ensures)))
+    (λ c. rw (c .before .match .keys5) (ap Known (c .two-parts .ensures)))
+    (λ c. rw (c .before .match .keys6) (ap Known (c .two-parts2 .ensures)))
+    (λ c. rw (c .before .match .keys7) (ap Known (c .one-part2 .ensures)))
+    (λ c. rw (c .before .match .keys8) (ap Known (c .one-part3 .ensures)))
+    (λ c. rw (c .before .match .keys9) (ap Known (c .argument-only2 .ensures)))
+    (λ c. rw (c .before .match .keys10) (ap Known (c .one-part4 .ensures)))
+    (λ c. rw (c .before .match .keys11) (ap Known (c .two-parts3 .ensures)))
+    (λ c. rw (c .before .match .keys12) (ap Known (c .two-parts4 .ensures)))
+    (λ c. rw (c .before .match .keys13) (ap Known (c .one-part5 .ensures)))
+    (λ c. rw (c .before .match .keys14) (ap Known (c .one-part6 .ensures)))
+    (λ c. rw (c .before .match .keys15) (ap Known (c .two-parts5 .ensures)))
+    (λ c. rw (c .before .match .keys16) (ap Known (c .two-parts6 .ensures)))
+    (λ c. rw (c .before .match .keys17) (ap Known (c .two-parts7 .ensures)))
+    (λ c. rw (c .before .match .keys18) (ap Known (c .two-parts8 .ensures)))
+    (λ c. rw (c .before .match .keys19) (ap Known (c .three-parts .ensures)))
+    (λ c. rw (c .before .match .keys20) (ap Known (c .two-parts9 .ensures)))
     returns-21)

@@ -1,6 +1,6 @@
 -- `sheet::reading::read_nodes` meets its contract. The loop's invariant: the nodes before n are read, and the array has them.
 -- Assumes nothing.
-use mathlib.Core.Path.{_≡_, ap, sym, _∙_}
+use mathlib.Core.Path.{_≡_, refl, ap, sym, _∙_}
 use mathlib.Core.List.{List}
 use Prim.Native.Nat.{ℕ, suc, _+_, _*_, _-_, _≤_}
 use native.Mathlib.Numerals.{add-one}
@@ -23,15 +23,15 @@ abbrev μ-loop : tie.MeasureT-loop
 μ-loop bytes from count nodes₀ n₀ nodes n = count - n
 
 loop-holds : tie.Need-loop-holds Inv-loop μ-loop
-loop-holds c = (search needs, ap (allRead 0) (sym (c .blank-nodes .ensures)))
+loop-holds c = (search needs, refl)
 
 -- what is read of node n
 module _ (c : tie.After-read-node Inv-loop μ-loop) where
   abbrev bytes : List ℕ
-  bytes = c .before .before .before .before .before .args .bytes .now
+  bytes = c .before .before .before .before .args .bytes .now
 
   abbrev count : ℕ
-  count = c .before .before .before .before .before .args .count
+  count = c .before .before .before .before .args .count
 
   abbrev n : ℕ
   n = c .before .before .loop .n
@@ -44,8 +44,8 @@ module _ (c : tie.After-read-node Inv-loop μ-loop) where
 
   is : c .read-node .result ≡ nodeRead bytes n
   is =
-      let s = c .before .before .before .before .before in
-      node-at bytes n (s .args .from + 5 * n) (c .read-node .result) (ap (λ (at : ℕ). at + 5 * n) (s .pre .1)) (c .read-node .ensures)
+      let s = c .before .before .before .before in
+      node-at bytes n (s .args .from + 5 * n) (c .read-node .result) (ap (λ (at : ℕ). at + 5 * n) (s .pre .1 (omega arith))) (c .read-node .ensures)
 
   more : readNodes bytes (suc n) ≡ read-as (c .read-node .result)
   more = read-more bytes n nodes (c .before .before .loop .inv .1) (c .read-node .result) is
@@ -72,7 +72,7 @@ loop-again c =
 
 returns-3 : tie.Need-returns-3 Inv-loop μ-loop
 returns-3 c =
-    let s = c .before .before .before .before in
+    let s = c .before .before .before in
     let e : c .before .loop .n ≡ s .args .count = omega arith in
     ap (λ (n : ℕ). allRead n (c .before .loop .nodes)) (sym e) ∙ sym (c .before .loop .inv .1) ∙ ap (readNodes (s .args .bytes .now)) e
 
@@ -82,7 +82,6 @@ read-nodes-spec =
     (tie.spec
     Inv-loop
     μ-loop
-    (λ c κs. search needs)
     loop-holds
     (λ c. search needs)
     (λ c. search needs)

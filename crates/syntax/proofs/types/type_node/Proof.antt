@@ -53,10 +53,10 @@ returns-16 : tie.Need-returns-16
 returns-16 c = rw (c .before .before .before .before .before .node13 .given .1) (rw (c .before .type-before-plus .ensures, c .before .before .part-at11 .ensures, c .before .before .before .part-at10 .ensures) at (c .found10 .ensures))
 
 returns-17 : tie.Need-returns-17
-returns-17 c = rw (c .before .before .before .before .node14 .given .1) (rw (c .before .part-at13 .ensures, c .before .before .part-at12 .ensures) at (c .found-after-minus .ensures))
+returns-17 c = rw (c .before .before .before .before .node14 .given .1) (rw (c .before .part-at13 .ensures, c .before .before .part-at12 .ensures) at (c .found-after .ensures))
 
 returns-18 : tie.Need-returns-18
-returns-18 c = rw (c .before .before .before .before .node15 .given .1) (rw (c .before .part-at15 .ensures, c .before .before .part-at14 .ensures) at (c .found-after-plus .ensures))
+returns-18 c = rw (c .before .before .before .before .node15 .given .1) (rw (c .before .part-at15 .ensures, c .before .before .part-at14 .ensures) at (c .found-after2 .ensures))
 
 returns-19 : tie.Need-returns-19
 returns-19 c = rw (c .before .before .before .before .before .node16 .given .1) (rw (c .before .part-at18 .ensures, c .before .before .part-at17 .ensures, c .before .before .before .part-at16 .ensures) at (c .found-fulfilling .ensures))

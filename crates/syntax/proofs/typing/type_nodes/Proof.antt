@@ -1,6 +1,6 @@
 -- `syntax::typing::type_nodes` meets its contract. The loop's invariant: the array has the types of the nodes before n.
 -- Assumes nothing.
-use mathlib.Core.Path.{_≡_, ap, sym, _∙_}
+use mathlib.Core.Path.{_≡_, refl, ap, sym, _∙_}
 use mathlib.Core.List.{List}
 use Prim.Native.Nat.{ℕ, _-_, _≤_}
 use native.Mathlib.Numerals.{add-one}
@@ -9,6 +9,7 @@ use borrow.Author.Needs.{needs}
 use Rattle.syntax.specs.Typed.{Typings, mistyped, typed, typeNext, typeNodes, typedNodes}
 use Rattle.syntax.specs.declared.ListedNode.{ListedNode}
 use Rattle.syntax.specs.declared.Fault.{Fault}
+use Rattle.syntax.specs.declared.TypedNode.{TypedNode}
 use Rattle.syntax.specs.declared.TypeFound.{TypeFound}
 use Rattle.syntax.proofs.Typings.{type-more, fault-at}
 use Rattle.syntax.proofs.typing.type_nodes.Statement.{statement}
@@ -21,12 +22,12 @@ abbrev μ-loop : tie.MeasureT-loop
 μ-loop count nodes types₀ n₀ types n = count - n
 
 loop-holds : tie.Need-loop-holds Inv-loop μ-loop
-loop-holds c = (search needs, ap typed (sym (c .blank-types .ensures)))
+loop-holds c = (search needs, refl)
 
 -- what is found of node n
 module _ (c : tie.After-type-node Inv-loop μ-loop) where
   abbrev nodes : List ListedNode
-  nodes = c .before .before .before .before .before .args .t1
+  nodes = c .before .before .before .before .args .t1
 
   abbrev n : ℕ
   n = c .before .before .before .loop .n
@@ -34,17 +35,20 @@ module _ (c : tie.After-type-node Inv-loop μ-loop) where
   abbrev found-as : TypeFound → Typings
   found-as = typeNext n (c .before .before .before .loop .types)
 
-  faulty : (f : Fault) → found-as (c .type-node .result) ≡ mistyped f
-      → typedNodes (mistyped f) ≡ typedNodes (typeNodes nodes (c .before .before .before .before .before .args .count))
+  abbrev types : List TypedNode
+  types = c .before .before .before .loop .types
+
+  faulty : (f : Fault) → found-as (c .type-node .result) ≡ mistyped f types
+      → typedNodes (mistyped f types) ≡ typedNodes (typeNodes nodes (c .before .before .before .before .args .count))
   faulty f e =
       ap typedNodes
-      (sym (fault-at nodes n (c .before .before .before .loop .types) (c .before .before .before .loop .inv .1) (c .type-node .result) (c .type-node .ensures) _ f (c .before .before .loop-test .taken) e))
+      (sym (fault-at nodes n types (c .before .before .before .loop .inv .1) (c .type-node .result) (c .type-node .ensures) _ f (c .before .before .loop-test .taken) e))
 
 returns : tie.Need-returns Inv-loop μ-loop
-returns c = c .fault-found .ensures ∙ faulty (c .before .before .before) _ (ap (found-as (c .before .before .before)) (c .before .enum-told .given .1))
+returns c = let a = c .before .before in faulty a _ (ap (found-as a) (c .enum-told .given .1))
 
 returns-2 : tie.Need-returns-2 Inv-loop μ-loop
-returns-2 c = c .fault-found2 .ensures ∙ faulty (c .before .before .before) _ (ap (found-as (c .before .before .before)) (c .before .enum-told2 .given .1))
+returns-2 c = let a = c .before .before in faulty a _ (ap (found-as a) (c .enum-told2 .given .1))
 
 loop-again : tie.Need-loop-again Inv-loop μ-loop
 loop-again c =
@@ -57,8 +61,8 @@ loop-again c =
 
 returns-3 : tie.Need-returns-3 Inv-loop μ-loop
 returns-3 c =
-    let e : c .before .loop .n ≡ c .before .before .before .args .count = omega arith in
-    ap typedNodes (sym (c .before .loop .inv .1) ∙ ap (typeNodes (c .before .before .before .args .t1)) e)
+    let e : c .before .loop .n ≡ c .before .before .args .count = omega arith in
+    ap typedNodes (sym (c .before .loop .inv .1) ∙ ap (typeNodes (c .before .before .args .t1)) e)
 
 pub type-nodes-spec : {M : Type 1} → statement M
 type-nodes-spec =
@@ -66,7 +70,6 @@ type-nodes-spec =
     (tie.spec
     Inv-loop
     μ-loop
-    (λ c κs. search needs)
     loop-holds
     (λ c. search needs)
     (λ c. search needs)
@@ -75,10 +78,8 @@ type-nodes-spec =
     (λ c. search needs)
     (λ c. search needs)
     (λ c. search needs)
-    (λ c κs. search needs)
     returns
     (λ c. search needs)
-    (λ c κs. search needs)
     returns-2
     (λ c. search needs)
     (λ c. search needs)

@@ -1,43 +1,51 @@
--- `table::format::check` meets its contract: the header, then the length, then the entries.
+-- `table::format::check` meets its contract: the table at the front is checked, and must be all there is.
 -- Assumes nothing.
 use borrow.Author.Needs.{needs}
-use mathlib.Core.Path.{_≡_}
-use Prim.Native.Nat.{_%_}
+use mathlib.Core.Path.{_≡_, subst, sym, _∙_}
+use mathlib.Core.List.{List}
+use Prim.Native.Nat.{ℕ, _+_, _*_}
 use native.Mathlib.Omega.{arith}
-use Rattle.base.proofs.Lists.{tail}
-use Rattle.table.specs.Answer.{FieldsOf}
-use Rattle.table.proofs.Formed.{area, whole-of, formed, misfit}
+use lib.ListN.{length}
+use Rattle.table.specs.Table.{tableLength, frontTable, WellFormed}
+use Rattle.table.specs.Answer.{FormedAs}
+use Rattle.table.proofs.Formed.{area, front-whole, front-length}
 use Rattle.table.proofs.format.check.Statement.{statement}
 use Rattle.table.proofs.format.check.Tie as tie
+
+module _ (c : tie.After-mode) where
+  abbrev bytes : List ℕ
+  bytes = c .before .before .before .before .args .bytes .now
+
+  front : FormedAs (frontTable bytes) (c .mode .given .0 .0) (c .mode .given .0 .1 .0) (c .mode .given .0 .1 .1 .0)
+  front = rw (c .mode .given .1) at (c .before .before .check-front .ensures)
+
+  size : tableLength bytes ≡ 8 + c .mode .given .0 .1 .1 .0 * c .mode .given .0 .1 .0
+  size = front-length bytes (c .mode .given .0 .0) (c .mode .given .0 .1 .0) (c .mode .given .0 .1 .1 .0) (front .fields)
+
+  -- where it is all there is
+  whole : length bytes ≡ 8 + c .mode .given .0 .1 .1 .0 * c .mode .given .0 .1 .0
+      → FormedAs bytes (c .mode .given .0 .0) (c .mode .given .0 .1 .0) (c .mode .given .0 .1 .1 .0)
+  whole e =
+      subst (λ (l : List ℕ). FormedAs l (c .mode .given .0 .0) (c .mode .given .0 .1 .0) (c .mode .given .0 .1 .1 .0)) (front-whole bytes (e ∙ sym size)) front
 
 enum-told : tie.Need-enum-told
 enum-told c = search needs
 
-module _ (c : tie.After-mode) where
-  fields : FieldsOf (c .before .before .before .before .args .bytes .now) (c .mode .given .0 .0) (c .mode .given .0 .1 .0) (c .mode .given .0 .1 .1 .0)
-  fields = rw (c .mode .given .1) at (c .before .before .header-of .ensures)
-
-  -- the count of rows is a byte
-  count : c .mode .given .0 .1 .1 .0 % 256 ≡ c .mode .given .0 .1 .1 .0
-  count = omega (arith, fields .fits .rows-high, fields .rowed)
-
 returns : tie.Need-returns
-returns c = λ h. (rw (c .enum-told .given .1) at (c .before .before .header-of .ensures)) (h .header)
+returns c =
+    λ h. (rw (c .enum-told .given .1) at (c .before .before .check-front .ensures)) (subst WellFormed (sym (front-whole _ (h .whole))) h)
 
 mul-if1 : tie.Need-mul-if1
-mul-if1 c = omega (arith, area _ _ _ _ (fields (c .before)))
+mul-if1 c = omega (arith, area _ _ _ _ (front (c .before) .fields))
 
 add-if1 : tie.Need-add-if1
-add-if1 c = omega (arith, area _ _ _ _ (fields (c .before)))
+add-if1 c = omega (arith, area _ _ _ _ (front (c .before) .fields))
 
 returns-2 : tie.Need-returns-2
-returns-2 c = λ h. let whole = whole-of _ _ _ _ (fields (c .before .before)) h in omega (arith, c .if1 .taken)
+returns-2 c = λ h. let whole = h .whole ∙ size (c .before .before) in omega (arith, c .if1 .taken)
 
 returns-3 : tie.Need-returns-3
-returns-3 c = formed _ _ _ _ (fields (c .before .before .before .before .before)) (omega (arith, c .before .before .before .if1 .left)) (rw (c .if2 .taken, count (c .before .before .before .before .before), tail 8) at (c .before .entries-fit .ensures))
-
-returns-4 : tie.Need-returns-4
-returns-4 c = misfit _ _ _ _ (fields (c .before .before .before .before .before)) (rw (c .if2 .left, count (c .before .before .before .before .before), tail 8) at (c .before .entries-fit .ensures))
+returns-3 c = whole (c .before .before) (omega (arith, c .if1 .left))
 
 pub check-spec : {M : Type 1} → statement M
 check-spec =
@@ -50,10 +58,4 @@ check-spec =
     mul-if1
     add-if1
     returns-2
-    (λ c. search needs)
-    (λ c. search needs)
-    (λ c. search needs)
-    (λ c. search needs)
-    (λ c κs. search needs)
-    returns-3
-    returns-4)
+    returns-3)

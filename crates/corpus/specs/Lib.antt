@@ -1,0 +1,3 @@
+-- What the contracts of the corpus cite.
+-- Assumes nothing.
+pub mod Progress

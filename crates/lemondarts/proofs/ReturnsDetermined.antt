@@ -1,0 +1,53 @@
+-- Each exported call is determined: from the same bytes, with the same inputs, it returns one number and leaves one content of every lent byte.
+-- Assumes nothing.
+use mathlib.Core.Path.{_≡_, refl, sym, _∙_, ap, ap₂}
+use mathlib.Core.List.{List}
+use Prim.Native.Nat.{ℕ}
+use Rattle.board.specs.Calls.{Reply}
+use Rattle.board.specs.declared.Board.{Board}
+use Rattle.table.proofs.Loading.{load-determined}
+use Rattle.compiler_laws.proofs.Calls.{call-determined}
+use Rattle.histories.proofs.CallsDetermined.{makes-determined, puts-on-determined, takes-off-determined, acts-determined}
+use Rattle.lemondarts.specs.Numbers.{packedReply, packedAnswer}
+use Rattle.lemondarts.specs.Exports.{LoadReturns, Returns, short-record, called, recordAfter, NewBoardReturns, PutOnReturns, TakeOffReturns, ActionReturns}
+use Rattle.lemondarts.specs.Compiling.{CompileReturns}
+
+pub load-returns-determined : {table : List ℕ} {returned other : ℕ} → LoadReturns table returned → LoadReturns table other → returned ≡ other
+load-returns-determined {table} p q = p .number ∙ ap packedAnswer (load-determined table (p .answer) (q .answer) (p .loads) (q .loads)) ∙ sym (q .number)
+
+pub compile-returns-determined : {sheet out work values : List ℕ} {returned other : ℕ} {out' work' values' out'' work'' values'' : List ℕ}
+    → CompileReturns sheet out work values returned out' work' values' → CompileReturns sheet out work values other out'' work'' values''
+    → (returned ≡ other) × (out' ≡ out'') × (work' ≡ work'') × (values' ≡ values'')
+compile-returns-determined p q =
+    let (a, o, w, v) = call-determined (p .compiles) (q .compiles) in (p .number ∙ ap packedAnswer a ∙ sym (q .number), o, w, v)
+
+-- a call of the board that is determined
+returns-determined : {call : Reply → Board → List ℕ → Type 0} {bytes area : List ℕ}
+    → ((r r' : Reply) (b b' : Board) (l l' : List ℕ) → call r b l → call r' b' l' → (r ≡ r') × (b ≡ b') × (l ≡ l'))
+    → {returned other : ℕ} {bytes' bytes'' area' area'' : List ℕ} → Returns call bytes area returned bytes' area' → Returns call bytes area other bytes'' area''
+    → (returned ≡ other) × (bytes' ≡ bytes'') × (area' ≡ area'')
+returns-determined d (short-record n) (short-record m) = (refl, refl, refl)
+returns-determined d (short-record n) (called long reply next left p) = absurd (n long)
+returns-determined d (called long reply next left p) (short-record n) = absurd (n long)
+returns-determined {bytes = bytes} d (called long reply next left p) (called long' reply' next' left' q) =
+    let (r, b, l) = d reply reply' next next' left left' p q in (ap packedReply r, ap₂ (λ (x : Reply) (y : Board). recordAfter bytes x y) r b, l)
+
+module _ {bytes area : List ℕ} {returned other : ℕ} {bytes' bytes'' area' area'' : List ℕ} where
+  pub new-board-returns-determined : NewBoardReturns bytes area returned bytes' area' → NewBoardReturns bytes area other bytes'' area''
+      → (returned ≡ other) × (bytes' ≡ bytes'') × (area' ≡ area'')
+  new-board-returns-determined = returns-determined (λ r r' b b' l l' p q. makes-determined p q)
+
+  pub put-on-returns-determined : {place : ℕ} {table : List ℕ} → PutOnReturns bytes area place table returned bytes' area'
+      → PutOnReturns bytes area place table other bytes'' area'' → (returned ≡ other) × (bytes' ≡ bytes'') × (area' ≡ area'')
+  put-on-returns-determined = returns-determined (λ r r' b b' l l' p q. puts-on-determined p q)
+
+  pub take-off-returns-determined : {place : ℕ} → TakeOffReturns bytes area place returned bytes' area'
+      → TakeOffReturns bytes area place other bytes'' area'' → (returned ≡ other) × (bytes' ≡ bytes'') × (area' ≡ area'')
+  take-off-returns-determined = returns-determined (λ r r' b b' l l' p q. takes-off-determined p q)
+
+  pub action-returns-determined : {action : ℕ} → ActionReturns bytes area action returned bytes' area'
+      → ActionReturns bytes area action other bytes'' area'' → (returned ≡ other) × (bytes' ≡ bytes'') × (area' ≡ area'')
+  action-returns-determined =
+      returns-determined
+      (λ r r' b b' l l' p q.
+      let (e, f) = acts-determined (p .acts) (q .acts) in (e, f, p .unchanged ∙ sym (q .unchanged)))

@@ -1,0 +1,68 @@
+//! The C calls, with slices for pointers and lengths. A slice is never null, two that are lent to
+//! one call do not overlap, and each is valid for its length: this is all that the header asks for.
+
+use crate::Answer;
+
+extern "C" {
+    fn lemondarts_load(table: *const u8, table_len: usize) -> u64;
+    fn lemondarts_compile(
+        sheet: *const u8,
+        sheet_len: usize,
+        out: *mut u8,
+        out_len: usize,
+        work: *mut u8,
+        work_len: usize,
+        values: *mut u64,
+        values_len: usize,
+    ) -> u64;
+    fn lemondarts_new_board(record: *mut u8, record_len: usize, area: *mut u8, area_len: usize) -> u64;
+    fn lemondarts_put_on(
+        record: *mut u8,
+        record_len: usize,
+        area: *mut u8,
+        area_len: usize,
+        place: usize,
+        table: *const u8,
+        table_len: usize,
+    ) -> u64;
+    fn lemondarts_take_off(record: *mut u8, record_len: usize, area: *mut u8, area_len: usize, place: usize) -> u64;
+    fn lemondarts_action(record: *mut u8, record_len: usize, area: *const u8, area_len: usize, action: usize) -> u64;
+}
+
+pub fn load(table: &[u8]) -> Answer {
+    unsafe { lemondarts_load(table.as_ptr(), table.len()) }.into()
+}
+
+pub fn compile(sheet: &[u8], out: &mut [u8], work: &mut [u8], values: &mut [u64]) -> Answer {
+    unsafe {
+        lemondarts_compile(
+            sheet.as_ptr(),
+            sheet.len(),
+            out.as_mut_ptr(),
+            out.len(),
+            work.as_mut_ptr(),
+            work.len(),
+            values.as_mut_ptr(),
+            values.len(),
+        )
+    }
+    .into()
+}
+
+pub fn new_board(record: &mut [u8], area: &mut [u8]) -> Answer {
+    unsafe { lemondarts_new_board(record.as_mut_ptr(), record.len(), area.as_mut_ptr(), area.len()) }.into()
+}
+
+pub fn put_on(record: &mut [u8], area: &mut [u8], place: usize, table: &[u8]) -> Answer {
+    let (record_len, area_len) = (record.len(), area.len());
+    let (record, area) = (record.as_mut_ptr(), area.as_mut_ptr());
+    unsafe { lemondarts_put_on(record, record_len, area, area_len, place, table.as_ptr(), table.len()) }.into()
+}
+
+pub fn take_off(record: &mut [u8], area: &mut [u8], place: usize) -> Answer {
+    unsafe { lemondarts_take_off(record.as_mut_ptr(), record.len(), area.as_mut_ptr(), area.len(), place) }.into()
+}
+
+pub fn action(record: &mut [u8], area: &[u8], action: usize) -> Answer {
+    unsafe { lemondarts_action(record.as_mut_ptr(), record.len(), area.as_ptr(), area.len(), action) }.into()
+}
