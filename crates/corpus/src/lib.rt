@@ -190,12 +190,6 @@ pub fn settle(counts: &mut [u64], slot: usize, named: bool, ran: Ran, name: &[u8
     named & ran.whole
 }
 
-// Writes a word and a count.
-pub fn show_count(word: &[u8], count: u64) {
-    io::write_all(1, word);
-    io::print_decimal(1, count);
-}
-
 // A corpus that was cut off, that had a block longer than its room, or that goes on behind its last record is reported. Answers how many are.
 pub fn end(at: Progress) -> usize
     ensures { λ r. ⌜ r ≤ 1 ⌝ }

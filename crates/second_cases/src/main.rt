@@ -155,13 +155,16 @@ fn report(done: usize, counts: &[u64]) {
     if counts.len() < 50 {
         return;
     }
-    corpus::show_count(b"sheets ", done as u64);
+    io::write_all(1, b"sheets ");
+    io::print_decimal(1, done as u64);
     io::write_all(1, b"\nanswers");
     corpus::show(&counts[0..16]);
     io::write_all(1, b"\nkinds");
     corpus::show(&counts[16..48]);
-    corpus::show_count(b"\nsequences ", counts[48]);
-    corpus::show_count(b"\ndisagreements ", counts[49]);
+    io::write_all(1, b"\nsequences ");
+    io::print_decimal(1, counts[48]);
+    io::write_all(1, b"\ndisagreements ");
+    io::print_decimal(1, counts[49]);
     io::write_all(1, b"\n");
 }
 
