@@ -39,10 +39,16 @@ static const uint8_t wide[44] = {
     3, 0, 0, 0, 0, 3, 1, 0, 0, 0, 12, 32, 0, 0, 0, 23, 0, 0, 2, 0, 23, 0, 1, 2, 0, 15, 0, 3, 4, 0,
 };
 
+static uint8_t text[LEMONDARTS_MOST_TEXT];
+static size_t text_length;
+static uint8_t written[LEMONDARTS_SHEET];
+static const uint16_t actions[4] = { 1, 2, 4, 8 };
+
 static void nothing(void) {}
 static void load(void) { answer = lemondarts_load(table, sizeof table); }
 static void compile(void) { answer = lemondarts_compile(sheet, sizeof sheet, out, sizeof out, work, sizeof work, values, LEMONDARTS_VALUES); }
 static void compile_wide(void) { answer = lemondarts_compile(wide, sizeof wide, out, sizeof out, work, sizeof work, values, LEMONDARTS_VALUES); }
+static void read_text(void) { answer = lemondarts_read_text(text, text_length, actions, 4, written, sizeof written); }
 static void new_board(void) { answer = lemondarts_new_board(record, sizeof record, area, sizeof area); }
 static void put_on(void) { answer = lemondarts_put_on(record, sizeof record, area, sizeof area, 0, table, sizeof table); }
 static void action(void) { answer = lemondarts_action(record, sizeof record, area, sizeof area, 0); }
@@ -81,10 +87,31 @@ static void make_table(void) {
     }
 }
 
+static void add(const char *words) {
+    memcpy(text + text_length, words, strlen(words));
+    text_length += strlen(words);
+}
+
+/* A text: a word, another again and again, and an end. */
+static void make_text(const char *first, const char *again, unsigned times, const char *end) {
+    text_length = 0;
+    add(first);
+    for (; times > 0; times--) {
+        add(again);
+    }
+    add(end);
+}
+
 int main(void) {
     size_t bare = used(nothing);
     int wrong = 0;
     make_table();
+    make_text("watch ", "eventually ", 62, "now p0");
+    wrong |= show("read_text, 64 nodes", read_text, bare, LEMONDARTS_STACK_TEXT, LEMONDARTS_DONE);
+    make_text("enforce ", "or ", 338, "or");
+    wrong |= show("read_text, 1,024 bytes", read_text, bare, LEMONDARTS_STACK_TEXT, LEMONDARTS_BAD_TEXT);
+    make_text("watch now ", "not ", 253, "p0");
+    wrong |= show("read_text, 255 nodes", read_text, bare, LEMONDARTS_STACK_TEXT, LEMONDARTS_TOO_MANY_NODES);
     wrong |= show("load", load, bare, LEMONDARTS_STACK_LOAD, LEMONDARTS_DONE);
     wrong |= show("compile, up to 64 values", compile, bare, LEMONDARTS_STACK_COMPILE, LEMONDARTS_DONE);
     wrong |= show("compile, more values", compile_wide, bare, LEMONDARTS_STACK_COMPILE, LEMONDARTS_TOO_MANY_ROWS);

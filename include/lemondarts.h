@@ -1,4 +1,4 @@
-/* Lemondarts: rule sheets, tables and the board, for C and C++.
+/* Lemondarts: rules as text, rule sheets, tables and the board, for C and C++.
  *
  * What can be linked today is liblemondarts.a, a static archive for x86-64 Linux (`rt staticlib lemondarts` writes it to target/staticlib/,
  * `make install` installs it). It needs no other library but memcpy, memmove and memset, and allocates nothing.
@@ -8,11 +8,12 @@
  * - A pointer comes with its length in elements. The pointer must not be null, even where the length is 0, and that many elements must be
  *   readable, and writable where the parameter is not const.
  * - The areas lent to one call must not overlap. No call keeps a pointer.
- * - Bytes need no alignment; `values` is aligned as a uint64_t, to 8 bytes.
+ * - Bytes need no alignment; `values` is aligned as a uint64_t, to 8 bytes, `actions` as a uint16_t, to 2.
  * - Threads: nothing is kept between calls, so calls on different boards and areas may run at once. Calls on one board, or with one work area,
  *   come one after the other: the caller holds a lock.
- * - Stack: compiling takes some 41 KiB, loading and putting on some 3.2 KiB, the others under 1 KiB. LEMONDARTS_STACK_.. below is what to plan
- *   for; examples/stack.c measures it.
+ * - Stack: compiling takes some 39 KiB, loading and putting on some 3.2 KiB, the others under 1 KiB;
+ *   reading a text some 198 KiB for the deepest that 1,024 bytes can say, 34 KiB for one that gives a sheet.
+ *   LEMONDARTS_STACK_.. below is what to plan for; examples/stack.c measures it.
  * - Nothing else is asked of the caller: the contracts of the calls have no precondition.
  *
  * What the checks are not. 10, 11 and 25 find bytes that cannot be, not bytes that were changed: a table or a board whose bytes were changed to
@@ -32,9 +33,9 @@
  * - PATCH, where neither is so: stack, time, comments.
  */
 #define LEMONDARTS_VERSION_MAJOR 4
-#define LEMONDARTS_VERSION_MINOR 1
+#define LEMONDARTS_VERSION_MINOR 2
 #define LEMONDARTS_VERSION_PATCH 0
-#define LEMONDARTS_VERSION "4.1.0"
+#define LEMONDARTS_VERSION "4.2.0"
 
 /* Lengths. An area may be longer; what stands behind these lengths is not touched. */
 #define LEMONDARTS_RECORD 16     /* a board's record, in bytes */
@@ -45,6 +46,7 @@
 
 /* Stack, in bytes: at most this much in a call, rounded up, without what the caller and an interrupt take. */
 #define LEMONDARTS_STACK_COMPILE 49152 /* lemondarts_compile */
+#define LEMONDARTS_STACK_TEXT 212992   /* lemondarts_read_text */
 #define LEMONDARTS_STACK_LOAD 4096     /* lemondarts_load, lemondarts_put_on */
 #define LEMONDARTS_STACK_CALL 1024     /* the other calls */
 
@@ -54,6 +56,7 @@
 #define LEMONDARTS_MOST_NODES 64     /* of a sheet */
 #define LEMONDARTS_MOST_ROWS 64      /* of a table */
 #define LEMONDARTS_MOST_COUNT 60     /* the largest argument of Count and Fulfilling */
+#define LEMONDARTS_MOST_TEXT 1024    /* of the text of a rule, in bytes */
 
 /* A sheet: a header (counts of actions and nodes, offsets of the action list and the node list, total length; 16 bits each, low byte first), an
  * action list (16 bits an action: bit p set where it satisfies proposition p), a node list (five bytes a node: kind, argument, parts a, b, c).
@@ -62,7 +65,7 @@
 #define LEMONDARTS_SHEET_HEADER 10   /* in bytes */
 #define LEMONDARTS_SHEET_ACTION 2    /* an action of the action list, in bytes */
 #define LEMONDARTS_SHEET_NODE 5      /* a node, in bytes */
-#define LEMONDARTS_SHEET 362         /* the longest sheet with no gap: 16 actions and 64 nodes */
+#define LEMONDARTS_SHEET 362         /* the longest sheet with no gap: 16 actions and 64 nodes; the output of reading a text */
 
 /* A table: a header (type, actions, rows, offset of the rows, which is 8; 16 bits each, low byte first), then a byte for each action of each row:
  * the next row, or a trip.
@@ -96,9 +99,10 @@
 
 /* An answer is one number of 64 bits: four fields of 16 bits, lowest first. */
 #define LEMONDARTS_NUMBER(answer) ((unsigned)((uint64_t)(answer) & 65535u))         /* 0 done, 255 denied, else a refusal */
-#define LEMONDARTS_VALUE(answer) ((unsigned)((uint64_t)(answer) >> 16 & 65535u))    /* see each call; for refusals 4 to 9 the node, else 0 */
-#define LEMONDARTS_ACTIONS(answer) ((unsigned)((uint64_t)(answer) >> 32 & 65535u))  /* a table's number of actions, 1 to 16 */
+#define LEMONDARTS_VALUE(answer) ((unsigned)((uint64_t)(answer) >> 16 & 65535u))    /* see each call; of refusals 4 to 9 the node, of 32 the word */
+#define LEMONDARTS_ACTIONS(answer) ((unsigned)((uint64_t)(answer) >> 32 & 65535u))  /* a table's or a sheet's number of actions, 1 to 16 */
 #define LEMONDARTS_ROWS(answer) ((unsigned)((uint64_t)(answer) >> 48 & 65535u))     /* a table's number of rows, 1 to 64 */
+#define LEMONDARTS_NODES(answer) ((unsigned)((uint64_t)(answer) >> 48 & 65535u))    /* of a done read_text: the sheet's number of nodes, 1 to 64 */
 
 /* Whether a call other than lemondarts_action is done. */
 #define LEMONDARTS_OK(answer) (LEMONDARTS_NUMBER(answer) == LEMONDARTS_DONE)
@@ -112,6 +116,9 @@
 /* The length in bytes of the table that a done load or compile speaks of. */
 #define LEMONDARTS_TABLE_LENGTH(answer) ((size_t)LEMONDARTS_TABLE_HEADER + (size_t)LEMONDARTS_ROWS(answer) * LEMONDARTS_ACTIONS(answer))
 
+/* The length in bytes of the sheet that a done read_text wrote. */
+#define LEMONDARTS_SHEET_LENGTH(answer) ((size_t)LEMONDARTS_VALUE(answer))
+
 /* Types, the value of a done load or compile. */
 #define LEMONDARTS_ENFORCED 1u /* trips when its policy becomes violated: denies actions */
 #define LEMONDARTS_WATCHED 2u  /* trips when its policy becomes satisfied: is reported fulfilled */
@@ -120,7 +127,7 @@
 #define LEMONDARTS_DONE 0u
 #define LEMONDARTS_DENIED 255u           /* do not carry the action out */
 #define LEMONDARTS_BAD_LENGTH 1u         /* sheet under 10 bytes, or its total is not its length: send the whole sheet */
-#define LEMONDARTS_BAD_COUNTS 2u         /* actions not 1 to 16, or nodes not 1 to 64: correct the header, or split the sheet */
+#define LEMONDARTS_BAD_COUNTS 2u         /* actions not 1 to 16, or nodes not 1 to 64: correct the header or the action list, or split the sheet */
 #define LEMONDARTS_BAD_AREAS 3u          /* action or node list misplaced: correct the offsets in the header */
 #define LEMONDARTS_UNKNOWN_KIND 4u       /* the node's kind is unknown: correct the node */
 #define LEMONDARTS_BAD_FIELD 5u          /* the node's part, argument or unused field is wrong: correct the node */
@@ -138,6 +145,9 @@
 #define LEMONDARTS_OTHER_ACTIONS 23u     /* the rules on have another number of actions: take them off first */
 #define LEMONDARTS_BOARD_EMPTY 24u       /* no rule is on: put one on before asking */
 #define LEMONDARTS_BOARD_IMPOSSIBLE 25u  /* record or area was damaged: make a new board and put the tables on again */
+#define LEMONDARTS_TEXT_TOO_LONG 31u     /* a text over 1,024 bytes: shorten it, or split the rule */
+#define LEMONDARTS_BAD_TEXT 32u          /* the text is not in the language: correct this word, or complete the rule */
+#define LEMONDARTS_TOO_MANY_NODES 33u    /* a text of over 64 nodes: shorten it, or split the rule */
 
 /* A short text for the number of an answer, for logs. */
 static inline const char *lemondarts_refusal_text(unsigned number) {
@@ -162,6 +172,9 @@ static inline const char *lemondarts_refusal_text(unsigned number) {
     case LEMONDARTS_OTHER_ACTIONS: return "the rules on have another number of actions";
     case LEMONDARTS_BOARD_EMPTY: return "no rule is on";
     case LEMONDARTS_BOARD_IMPOSSIBLE: return "the board's record or area is damaged";
+    case LEMONDARTS_TEXT_TOO_LONG: return "the text is over 1024 bytes";
+    case LEMONDARTS_BAD_TEXT: return "the word does not fit, or the text ends too soon";
+    case LEMONDARTS_TOO_MANY_NODES: return "the text has over 64 nodes";
     case LEMONDARTS_DENIED: return "denied";
     default: return "unknown number";
     }
@@ -186,6 +199,26 @@ uint64_t lemondarts_load(const uint8_t *table, size_t table_len);
  */
 uint64_t lemondarts_compile(const uint8_t *sheet, size_t sheet_len, uint8_t *out, size_t out_len,
                             uint8_t *work, size_t work_len, uint64_t *values, size_t values_len);
+
+/* Reads a rule typed as text, and writes its sheet.
+ * Reads `text`, any bytes, and `actions`, for each action the set of propositions that it satisfies, aligned to 2 bytes. `sheet` is 362 bytes or
+ * more. The text is words of lower-case letters and digits, parted by one or more blanks or newlines, which may also stand at either end. It is
+ *     watch W, or enforce E
+ * where W, a watched policy, is one of
+ *     now A, count K, not E, and W W, or W W, eventually W, before W W, after W W, ignoring A W
+ * E, an enforced one, is one of
+ *     holds A, not W, and E E, or E E, always E, before W E, after W E, fulfilling K W E E, ignoring A E
+ * A, a formula, is one of
+ *     true, false, p0 to p15, not A, and A A, or A A
+ * and K is 1 to 60 without leading zero. `enforce always after now p0 holds not p1` says: no p1 right after p0.
+ * Done: the sheet is at the front of `sheet`, LEMONDARTS_SHEET_LENGTH bytes, and what stands behind it is unchanged; its action list is `actions`,
+ * and its nodes stand in the order of the text, parts before their whole. The value is its length, with ACTIONS and NODES. It can be given to
+ * lemondarts_compile, which may refuse it by 6 (the k of Fulfilling), 8 or 9. Refused: `sheet` is unchanged. The first refusal in the order
+ * 14, 2 (no action, or over 16), 31, 32, 33. For 32 the value is the number of words before the first that does not fit, or of all words where
+ * the text ends too soon.
+ */
+uint64_t lemondarts_read_text(const uint8_t *text, size_t text_length, const uint16_t *actions, size_t action_count,
+                              uint8_t *sheet, size_t sheet_length);
 
 /* The board is two areas that the caller keeps and lends to each call: the record, 16 bytes, and the area, 8,256 bytes, where its tables stand.
  * Keep the two together, and write to neither. The record has two bytes a place: its case (0 empty, 1 enforced, 2 watched, 3 fulfilled) and its

@@ -1,13 +1,14 @@
 //! Times of the library's calls, as ratios to the reference in the same run; of actions also to a
 //! plain scan of the bytes that the check of the board has to read, and to the same call written by
-//! hand in C, plain and with SSE2; of minimisation to OpenFst. Argument: the program built from
-//! minimise.cc, if there is one.
+//! hand in C, plain and with SSE2; of reading a text also to compiling its sheet; of minimisation to
+//! OpenFst. Argument: the program built from minimise.cc, if there is one.
 
 mod by_hand;
 #[allow(dead_code)] // not every call is timed
 #[path = "../../tests/fuzz/src/library.rs"]
 mod library;
 mod openfst;
+mod texts;
 
 use reference::board::{AREA, PLACES, RECORD};
 use reference::calls::{self, VALUES, WORK};
@@ -268,6 +269,8 @@ fn main() {
     for on in [1, 2, 4, 6, 8] {
         action(&format!("{} bytes", on * largest[0].len()), &largest[..on]);
     }
+
+    texts::all();
 
     println!("\nMinimisation, microseconds for all machines of the sheets together. The library has no call");
     println!("for it alone: its column is the whole compilation.\n");

@@ -1,8 +1,9 @@
-//! The library's six calls on lent areas, answered by the reference. An answer is one number of
-//! 64 bits: number, value, actions, rows, 16 bits each from the lowest.
+//! The library's seven calls on lent areas, answered by the reference. An answer is one number of
+//! 64 bits: number, value, actions, rows (of a text: nodes), 16 bits each from the lowest.
 
 use crate::board::{Board, Verdict};
 use crate::table::{self, Table, LARGEST};
+use crate::text::OUTPUT;
 
 /// Lengths of the compiler's work areas.
 pub const WORK: usize = 65_536;
@@ -11,7 +12,7 @@ pub const VALUES: usize = 1024;
 pub const DENIED: u8 = 255;
 
 /// The number of an answer's four fields.
-fn pack(fields: [u8; 4]) -> u64 {
+fn pack(fields: [u16; 4]) -> u64 {
     fields.iter().rev().fold(0, |packed, &field| packed << 16 | field as u64)
 }
 
@@ -20,17 +21,17 @@ pub fn fields(answer: u64) -> [u16; 4] {
     [0, 16, 32, 48].map(|lowest| (answer >> lowest) as u16)
 }
 
-/// The same as four bytes, as the corpus has them. Every field is below 256.
+/// The same as four bytes, as the corpus has them of all calls but a text's. Every field is below 256.
 pub fn bytes(answer: u64) -> [u8; 4] {
     fields(answer).map(|field| u8::try_from(field).expect("a field below 256"))
 }
 
-fn answer(number: u8, value: u8) -> u64 {
-    pack([number, value, 0, 0])
+fn answer(number: u8, value: u16) -> u64 {
+    pack([number.into(), value, 0, 0])
 }
 
 fn accepted(table: Table) -> u64 {
-    pack([0, table.kind, table.actions, table.rows])
+    pack([0, table.kind.into(), table.actions.into(), table.rows.into()])
 }
 
 fn done(result: Result<(), u8>) -> u64 {
@@ -56,6 +57,20 @@ pub fn compile(sheet: &[u8], out: &mut [u8], work: &mut [u8], values: &mut [u64]
     }
 }
 
+pub fn read_text(text: &[u8], actions: &[u16], out: &mut [u8]) -> u64 {
+    if out.len() < OUTPUT {
+        return answer(14, 0);
+    }
+    match crate::read_text(text, actions) {
+        Err(refusal) => answer(refusal.number, refusal.spot),
+        Ok(sheet) => {
+            let bytes = sheet.bytes();
+            out[..bytes.len()].copy_from_slice(&bytes);
+            pack([0, bytes.len() as u16, sheet.actions.len() as u16, sheet.nodes.len() as u16])
+        }
+    }
+}
+
 pub fn new_board(record: &mut [u8], area: &mut [u8]) -> u64 {
     done(Board::new(record, area).map(|_| ()))
 }
@@ -70,8 +85,8 @@ pub fn take_off(record: &mut [u8], area: &mut [u8], place: usize) -> u64 {
 
 pub fn action(record: &mut [u8], area: &[u8], action: usize) -> u64 {
     match crate::board::act(record, area, action) {
-        Ok(Verdict::Permitted(places)) => answer(0, places),
-        Ok(Verdict::Denied(place)) => answer(DENIED, place),
+        Ok(Verdict::Permitted(places)) => answer(0, places.into()),
+        Ok(Verdict::Denied(place)) => answer(DENIED, place.into()),
         Err(number) => answer(number, 0),
     }
 }

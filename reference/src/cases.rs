@@ -3,8 +3,10 @@
 
 pub mod counted;
 pub mod histories;
+pub mod house;
 pub mod sheets;
 pub mod tables;
+pub mod texts;
 
 use crate::table::{ENFORCED, HEADER, WATCHED};
 use crate::trees::*;

@@ -1,9 +1,10 @@
-//! The corpus: the inputs of the programs second_cases, load_cases and board_cases, each with the
-//! answer expected, and what the programs print. README.md describes its bytes.
+//! The corpus: the inputs of the programs second_cases, load_cases, board_cases and text_cases, each
+//! with the answer expected, and what the programs print. README.md describes its bytes.
 
 pub mod calls;
 pub mod sheets;
 pub mod tables;
+pub mod texts;
 
 use crate::inputs::tables::Pool;
 use std::collections::BTreeMap;
@@ -17,10 +18,10 @@ pub struct Corpus {
 }
 
 /// All of them.
-pub fn all() -> [Corpus; 3] {
+pub fn all() -> [Corpus; 4] {
     let sheets = sheets::all();
     let pool = sheets::tables_of(&sheets);
-    [sheets::corpus(&sheets), tables::corpus(&pool), calls::corpus(&pool)]
+    [sheets::corpus(&sheets), tables::corpus(&pool), calls::corpus(&pool), texts::corpus(&texts::all())]
 }
 
 /// The longest name of a record.

@@ -30,6 +30,22 @@ pub unsafe extern "C" fn lemondarts_compile(
 }
 
 #[no_mangle]
+pub unsafe extern "C" fn lemondarts_read_text(
+    text: *const u8,
+    text_length: usize,
+    actions: *const u16,
+    action_count: usize,
+    sheet: *mut u8,
+    sheet_length: usize,
+) -> u64 {
+    calls::read_text(
+        from_raw_parts(text, text_length),
+        from_raw_parts(actions, action_count),
+        from_raw_parts_mut(sheet, sheet_length),
+    )
+}
+
+#[no_mangle]
 pub unsafe extern "C" fn lemondarts_new_board(
     record: *mut u8,
     record_len: usize,

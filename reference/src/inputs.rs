@@ -1,9 +1,33 @@
-//! Inputs of every sort, drawn: sheets and tables, and ways to damage bytes.
+//! Inputs of every sort, drawn: sheets, tables and texts, and ways to damage bytes.
 
 pub mod sheets;
 pub mod tables;
+pub mod texts;
 
 use crate::generate::Random;
+
+/// A sort of inputs: its name, its share among the sorts, and how one is drawn.
+pub struct Sort {
+    pub name: &'static str,
+    pub share: usize,
+    pub draw: fn(&mut Random) -> Vec<u8>,
+}
+
+const fn sort(name: &'static str, share: usize, draw: fn(&mut Random) -> Vec<u8>) -> Sort {
+    Sort { name, share, draw }
+}
+
+/// An input of some sort, and the name of the sort.
+fn any_of(sorts: &[Sort], random: &mut Random) -> (&'static str, Vec<u8>) {
+    let mut place = random.below(sorts.iter().map(|sort| sort.share).sum());
+    for sort in sorts {
+        if place < sort.share {
+            return (sort.name, (sort.draw)(random));
+        }
+        place -= sort.share;
+    }
+    unreachable!("the shares cover every place")
+}
 
 /// Changes a few bytes, each to a near or a random one.
 pub fn damage(random: &mut Random, bytes: &mut [u8]) {

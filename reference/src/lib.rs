@@ -15,23 +15,25 @@ pub mod machine;
 pub mod meaning;
 pub mod sheet;
 pub mod table;
+pub mod text;
 pub mod trees;
 pub mod values;
 
 pub use board::{Board, Verdict};
 pub use compile::compile;
 pub use table::load;
+pub use text::read_text;
 
-/// A refusal of the compiler: its number and its spot (docs/FORMATS.md).
+/// A refusal of the compiler or of the reader of texts: its number and its spot (docs/FORMATS.md).
 #[derive(Clone, Copy, Debug, PartialEq, Eq)]
 pub struct Refusal {
     pub number: u8,
-    pub spot: u8,
+    pub spot: u16,
 }
 
-/// A refusal at a node.
-fn at(number: u8, node: usize) -> Refusal {
-    Refusal { number, spot: node as u8 }
+/// A refusal at a node or a word.
+fn at(number: u8, spot: usize) -> Refusal {
+    Refusal { number, spot: spot as u16 }
 }
 
 /// The 16-bit number at an offset, low byte first.

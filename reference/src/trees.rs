@@ -3,7 +3,7 @@
 use crate::sheet::{Node, Sheet};
 
 /// A node with its parts. Equal nodes are written once, parts before their whole, left first.
-#[derive(Clone)]
+#[derive(Clone, Debug, PartialEq, Eq)]
 pub struct Tree {
     kind: u8,
     argument: u8,
@@ -15,6 +15,10 @@ pub fn tree<const N: usize>(kind: u8, argument: u8, parts: [Tree; N]) -> Tree {
 }
 
 impl Tree {
+    pub fn new(kind: u8, argument: u8, parts: Vec<Tree>) -> Tree {
+        Tree { kind, argument, parts }
+    }
+
     fn write(&self, nodes: &mut Vec<Node>) -> u8 {
         let mut parts = [0; 3];
         for (field, part) in parts.iter_mut().zip(&self.parts) {
@@ -32,6 +36,51 @@ impl Tree {
         let mut nodes = Vec::new();
         self.write(&mut nodes);
         Sheet { actions: actions.to_vec(), nodes }
+    }
+
+    /// Nodes, where none is shared.
+    pub fn count(&self) -> usize {
+        1 + self.parts.iter().map(Tree::count).sum::<usize>()
+    }
+
+    fn write_unshared(&self, nodes: &mut Vec<Node>) -> u8 {
+        let mut parts = [0; 3];
+        for (field, part) in parts.iter_mut().zip(&self.parts) {
+            *field = part.write_unshared(nodes);
+        }
+        nodes.push(Node { kind: self.kind, argument: self.argument, parts });
+        u8::try_from(nodes.len() - 1).expect("at most 256 nodes")
+    }
+
+    /// The same sheet with every node written as often as it stands in the tree.
+    pub fn unshared_sheet(&self, actions: &[u16]) -> Sheet {
+        let mut nodes = Vec::new();
+        self.write_unshared(&mut nodes);
+        Sheet { actions: actions.to_vec(), nodes }
+    }
+
+    /// Its words, as the text of a rule has them behind the first.
+    pub fn words(&self) -> Vec<String> {
+        let name = match self.kind {
+            1 => "true",
+            2 => "false",
+            3 => return vec![format!("p{}", self.argument)],
+            4 | 13 => "not",
+            5 | 14 => "and",
+            6 | 15 => "or",
+            10 => "now",
+            11 => "holds",
+            12 => "count",
+            16 => "eventually",
+            17 => "always",
+            18 | 19 => "before",
+            20 | 21 => "after",
+            22 => "fulfilling",
+            23 => "ignoring",
+            kind => panic!("kind {kind} has no word"),
+        };
+        let number = (self.argument != 0).then(|| self.argument.to_string());
+        std::iter::once(name.into()).chain(number).chain(self.parts.iter().flat_map(Tree::words)).collect()
     }
 }
 

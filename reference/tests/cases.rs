@@ -18,7 +18,7 @@ fn answer_to(case: &Case) -> Result<Vec<u8>, Refusal> {
     let [number, value, actions, rows] = calls::bytes(answer);
     match number {
         0 => Ok(out[..8 + actions as usize * rows as usize].to_vec()),
-        _ => Err(Refusal { number, spot: value }),
+        _ => Err(Refusal { number, spot: value.into() }),
     }
 }
 
@@ -30,7 +30,9 @@ fn check(case: Case) {
             let table = result.as_ref().expect(&case.name);
             assert_eq!((table[0], table[4] as usize), (type_byte(kind), rows), "{}", case.name);
         }
-        Stated::Refused(number, spot) => assert_eq!(result, Err(Refusal { number, spot }), "{}", case.name),
+        Stated::Refused(number, spot) => {
+            assert_eq!(result, Err(Refusal { number, spot: spot.into() }), "{}", case.name)
+        }
     }
     if let Ok(table) = result {
         assert_eq!(load(&table).map(|loaded| loaded.length()), Ok(table.len()), "{}", case.name);

@@ -1,7 +1,8 @@
 //! The corpus in the repository is what the command writes, and covers what it is for.
 
-use reference::corpus::{all, sheets};
+use reference::corpus::{all, sheets, texts};
 use reference::sheet::Sheet;
+use std::collections::HashSet;
 use std::path::Path;
 
 #[test]
@@ -29,4 +30,30 @@ fn sheets_cover_kinds_and_refusals() {
     for number in 1..=9 {
         assert!(records.iter().filter(|record| record.answer[0] == number).count() >= 8, "refusal {number}");
     }
+}
+
+/// Every kind is in eight sheets of texts and more, the whole policy of one; every answer is there at least eight times.
+#[test]
+fn texts_cover_kinds_and_answers() {
+    let records = texts::all();
+    let sheets: Vec<Sheet> = records
+        .iter()
+        .filter(|record| !record.sheet.is_empty())
+        .map(|record| Sheet::read(&record.sheet).unwrap())
+        .collect();
+    for kind in (1..=6).chain(10..=23) {
+        let with = sheets.iter().filter(|sheet| sheet.nodes.iter().any(|node| node.kind == kind)).count();
+        assert!(with >= 8, "kind {kind}: {with}");
+        let whole = sheets.iter().any(|sheet| sheet.nodes.last().unwrap().kind == kind);
+        assert!(whole || kind < 10, "kind {kind}");
+    }
+    for number in [0, 2, 14, 31, 32, 33] {
+        assert!(records.iter().filter(|record| record.answer as u16 == number).count() >= 8, "answer {number}");
+    }
+    let spots: HashSet<u64> =
+        records.iter().filter(|record| record.answer as u16 == 32).map(|record| record.answer >> 16).collect();
+    assert!(spots.len() >= 30, "{spots:?}");
+    assert!(records
+        .iter()
+        .all(|record| record.text.len() <= 3000 && record.output <= 400 && record.actions.len() <= 17));
 }

@@ -3,8 +3,10 @@
 ghost use mathlib.Core.Path.{_≡_};
 ghost use mathlib.Core.Bool.{true, false, cond, _&&_};
 ghost use Prim.Native.Nat.{_+_, _*_, _<_, _≤_, _%_, _^_};
-ghost use lib.ListN.{length, getD, set};
+ghost use mathlib.Core.List.{_++_};
+ghost use lib.ListN.{length, getD, set, drop};
 ghost use Rattle.io.specs.Counts.{Counts};
+ghost use Rattle.corpus.specs.Numbers.{wordAt};
 ghost use Rattle.corpus.specs.Progress.{Behind};
 
 // A number, or the length of a block: and whether all of its bytes were there.
@@ -47,12 +49,28 @@ pub fn at(bytes: &[u8], i: usize) -> usize
     wide(byte_at(bytes, i))
 }
 
+// The 16-bit number at i, low byte first.
+pub fn number_at(bytes: &[u8], i: usize) -> usize
+    requires { ⌜ i < 65536 ⌝ }
+    ensures { λ r. ⌜ (r ≡ wordAt (now (bytes .entry)) i) × (r < 65536) ⌝ }
+{
+    at(bytes, i) + 256 * at(bytes, i + 1)
+}
+
 // An answer of the calls for C: four fields of 16 bits, lowest first. The corpus has a byte for each.
 pub fn answer_at(bytes: &[u8]) -> usize
     ensures { λ r. ⌜ r ≡ getD (now (bytes .entry)) 0 0 + 65536 * getD (now (bytes .entry)) 1 0 + 4294967296 * getD (now (bytes .entry)) 2 0 + 281474976710656 * getD (now (bytes .entry)) 3 0 ⌝ }
 {
     let low = at(bytes, 0) + 65536 * at(bytes, 1);
     low + 4294967296 * at(bytes, 2) + 281474976710656 * at(bytes, 3)
+}
+
+// The same where the corpus has all eight bytes of an answer.
+pub fn long_answer_at(bytes: &[u8]) -> usize
+    ensures { λ r. ⌜ r ≡ wordAt (now (bytes .entry)) 0 + 65536 * wordAt (now (bytes .entry)) 2 + 4294967296 * wordAt (now (bytes .entry)) 4 + 281474976710656 * wordAt (now (bytes .entry)) 6 ⌝ }
+{
+    let low = number_at(bytes, 0) + 65536 * number_at(bytes, 2);
+    low + 4294967296 * number_at(bytes, 4) + 281474976710656 * number_at(bytes, 6)
 }
 
 fn room_for_number() -> [u8; 2]
@@ -69,7 +87,7 @@ pub fn read_number() -> Read
     let got = io::read_full(0, &mut bytes);
     Read {
         whole: got == 2,
-        number: at(&bytes, 0) + 256 * at(&bytes, 1),
+        number: number_at(&bytes, 0),
     }
 }
 
@@ -158,6 +176,23 @@ pub fn lent(short: bool, most: usize, whole: usize) -> usize
         }
     }
     whole
+}
+
+// Whether an output has these bytes in front, and behind them those that it had when it was fresh.
+pub fn written(out: &[u8], front: &[u8], fresh: &[u8]) -> bool
+    ensures { λ r. ⌜ (r ≡ true → now (out .entry) ≡ now (front .entry) ++ drop (length (now (front .entry))) (now (fresh .entry))) ⌝ }
+{
+    let size = front.len();
+    if out.len() < size {
+        return false;
+    }
+    if fresh.len() < size {
+        return false;
+    }
+    if check::same(&out[0..size], front) {
+        return check::same(&out[size..], &fresh[size..]);
+    }
+    false
 }
 
 // Adds to a count, where there is one of that number.

@@ -6,5 +6,8 @@ pub mod Answers
 pub mod Sessions
 pub mod CompileNumbers
 pub mod Spots
+pub mod TextNumbers
 pub mod SessionLaws
+pub mod SessionTexts
+pub mod PutTexts
 pub mod ReturnsDetermined

@@ -8,9 +8,11 @@ use Rattle.board.specs.declared.Board.{Board}
 use Rattle.table.proofs.Loading.{load-determined}
 use Rattle.compiler_laws.proofs.Calls.{call-determined}
 use Rattle.histories.proofs.CallsDetermined.{makes-determined, puts-on-determined, takes-off-determined, acts-determined}
+use Rattle.text_laws.proofs.Outcomes.{text-determined}
 use Rattle.lemondarts.specs.Numbers.{packedReply, packedAnswer}
 use Rattle.lemondarts.specs.Exports.{LoadReturns, Returns, short-record, called, recordAfter, NewBoardReturns, PutOnReturns, TakeOffReturns, ActionReturns}
 use Rattle.lemondarts.specs.Compiling.{CompileReturns}
+use Rattle.lemondarts.specs.Texts.{packedText, TextReturns}
 
 pub load-returns-determined : {table : List ℕ} {returned other : ℕ} → LoadReturns table returned → LoadReturns table other → returned ≡ other
 load-returns-determined {table} p q = p .number ∙ ap packedAnswer (load-determined table (p .answer) (q .answer) (p .loads) (q .loads)) ∙ sym (q .number)
@@ -20,6 +22,10 @@ pub compile-returns-determined : {sheet out work values : List ℕ} {returned ot
     → (returned ≡ other) × (out' ≡ out'') × (work' ≡ work'') × (values' ≡ values'')
 compile-returns-determined p q =
     let (a, o, w, v) = call-determined (p .compiles) (q .compiles) in (p .number ∙ ap packedAnswer a ∙ sym (q .number), o, w, v)
+
+pub text-returns-determined : {text actions sheet : List ℕ} {returned other : ℕ} {sheet' sheet'' : List ℕ} → TextReturns text actions sheet returned sheet'
+    → TextReturns text actions sheet other sheet'' → (returned ≡ other) × (sheet' ≡ sheet'')
+text-returns-determined p q = let (a, s) = text-determined (p .reads) (q .reads) in (p .number ∙ ap packedText a ∙ sym (q .number), s)
 
 -- a call of the board that is determined
 returns-determined : {call : Reply → Board → List ℕ → Type 0} {bytes area : List ℕ}

@@ -39,7 +39,7 @@ pub record Answered (call : Reply → Board → List ℕ → Type 0) (returned :
 
 module _ {events : List Event} {bytes area : List ℕ} (s : Session events bytes area) where
   -- a record used through the calls is long enough
-  answered : {call : Reply → Board → List ℕ → Type 0} {returned : ℕ} {bytes' area' : List ℕ} → Returns call bytes area returned bytes' area' → Answered call returned
+  pub answered : {call : Reply → Board → List ℕ → Type 0} {returned : ℕ} {bytes' area' : List ℕ} → Returns call bytes area returned bytes' area' → Answered call returned
   answered (short-record n) = absurd (n (session-history s .long))
   answered (called long reply next left p) = record { reply = reply; next = next; left = left; gave = p; packed = refl }
 
@@ -68,14 +68,17 @@ module _ {events : List Event} {bytes area : List ℕ} (s : Session events bytes
     permitted-zero : IsPermitted (answered r .reply) → numberIn returned ≡ 0
     permitted-zero p = ap numberIn (answered r .packed ∙ ap packedReply (p .1)) ∙ number-of 0 (p .0) (omega arith)
 
+    -- 0 is returned exactly when the action is permitted, and its value is the set of the places that it fulfils
+    pub zero-exactly : {M : Type 0} → IsPermitted (answered r .reply) ↔ M → (numberIn returned ≡ 0) ↔ M
+    zero-exactly e = (λ n. e .0 (valueIn returned, zero-permitted n), λ m. permitted-zero (e .1 m))
+
+    pub zero-acts : numberIn returned ≡ 0 → Acts (boardOf bytes) area action (permitted (valueIn returned)) (answered r .next)
+    zero-acts n = subst (λ (x : Reply). Acts (boardOf bytes) area action x (answered r .next)) (zero-permitted n) (answered r .gave .acts)
+
     -- An action of the list is permitted, 0 returned, exactly when no enforced rule is violated by the actions permitted since that rule was put
     -- on, followed by this one.
     pub session-permit-exactly : Listed events action → (numberIn returned ≡ 0) ↔ NoneViolated events action
-    session-permit-exactly l =
-        let e = permit-exactly (session-history s .history) l (answered r .gave .acts) in (
-          λ n. e .0 (valueIn returned, zero-permitted n),
-          λ v. permitted-zero (e .1 v),
-        )
+    session-permit-exactly l = zero-exactly (permit-exactly (session-history s .history) l (answered r .gave .acts))
 
     -- Otherwise it is denied, 255 returned, with the lowest place whose enforced rule is violated as the value.
     pub session-deny-otherwise : Listed events action → (NoneViolated events action → ⊥)
@@ -91,6 +94,4 @@ module _ {events : List Event} {bytes area : List ℕ} (s : Session events bytes
 
     -- A watched rule is reported, its place in the value of a 0 returned, at exactly the permitted action that first fulfils it.
     pub session-fulfilled-exactly : numberIn returned ≡ 0 → (i : ℕ) → Member (valueIn returned) i ↔ FirstFulfilled events action i
-    session-fulfilled-exactly n =
-        fulfilled-exactly (session-history s .history)
-        (subst (λ (x : Reply). Acts (boardOf bytes) area action x (answered r .next)) (zero-permitted n) (answered r .gave .acts))
+    session-fulfilled-exactly n = fulfilled-exactly (session-history s .history) (zero-acts n)

@@ -3,3 +3,5 @@ pub mod Numbers
 pub mod Exports
 pub mod Session
 pub mod Compiling
+pub mod Texts
+pub mod TextTables

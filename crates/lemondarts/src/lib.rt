@@ -3,6 +3,7 @@ mod calls;
 mod compiling;
 mod encoding;
 mod numbers;
+mod texts;
 
 pub use calls::lemondarts_action;
 pub use calls::lemondarts_load;
@@ -10,6 +11,7 @@ pub use calls::lemondarts_new_board;
 pub use calls::lemondarts_put_on;
 pub use calls::lemondarts_take_off;
 pub use compiling::lemondarts_compile;
+pub use texts::lemondarts_read_text;
 
 // An answer: its number, and whether it changes the board.
 pub struct NumberedReply(pub u64, pub bool);

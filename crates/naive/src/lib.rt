@@ -7,6 +7,8 @@ mod sequences;
 mod types;
 mod verdicts;
 
+pub use bytes::at;
+pub use bytes::put;
 pub use checks::find_areas;
 pub use checks::judge;
 pub use checks::node_at;

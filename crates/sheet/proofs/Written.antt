@@ -13,7 +13,7 @@ use Rattle.base.proofs.Lists.{sets-then, sets-front}
 use Rattle.syntax.specs.Nodes.{nodeAt}
 use Rattle.syntax.specs.declared.ListedNode.{ListedNode}
 use Rattle.syntax.specs.declared.Sheet.{Sheet}
-use Rattle.sheet.specs.Writing.{nodeBytes, headerBytes, actionBytes, nodesBytes, sheetBytes, Room}
+use Rattle.sheet.specs.Writing.{nodeBytes, headerBytes, actionBytes, frontBytes, nodesBytes, sheetBytes, Room}
 
 length-actions : (propositions : List ℕ) (a : ℕ) → length (actionBytes propositions a) ≡ 2 * a
 length-actions propositions = length-joined 2 (λ a. wordBytes (getD propositions a 0)) (λ a. refl)
@@ -34,6 +34,11 @@ module _ (l : List ℕ) (from : ℕ) where
       rw (add-one n)
       (sets-then l from (nodesBytes nodes n) (nodeBytes (nodeAt nodes n)) (from + 5 * n) (omega (arith, length-nodes nodes n)))
 
+-- the header and the action list stored one behind the other
+pub front-written : (l propositions : List ℕ) (actions count : ℕ) {x y : List ℕ} → x ≡ sets l 0 (headerBytes actions count)
+    → y ≡ sets x 10 (actionBytes propositions actions) → y ≡ sets l 0 (frontBytes actions count propositions)
+front-written l propositions actions count p q = rw (q, p) (sets-then l 0 (headerBytes actions count) (actionBytes propositions actions) 10 refl)
+
 module _ (sheet : Sheet) where
   pub length-front : length (headerBytes (sheet .actions) (sheet .count) ++ actionBytes (sheet .propositions) (sheet .actions)) ≡ 10 + 2 * sheet .actions
   length-front =
@@ -45,14 +50,13 @@ module _ (sheet : Sheet) where
       length-append (headerBytes (sheet .actions) (sheet .count) ++ actionBytes (sheet .propositions) (sheet .actions)) (nodesBytes (sheet .nodes) (sheet .count))
       ∙ omega (arith, length-front, length-nodes (sheet .nodes) (sheet .count))
 
-  -- the three parts stored one behind the other
-  pub sheet-written : (l : List ℕ) {x y z : List ℕ} → Room sheet (length l)
-      → x ≡ sets l 0 (headerBytes (sheet .actions) (sheet .count))
-      → y ≡ sets x 10 (actionBytes (sheet .propositions) (sheet .actions))
-      → z ≡ sets y (10 + 2 * sheet .actions) (nodesBytes (sheet .nodes) (sheet .count))
-      → z ≡ sheetBytes sheet ++ drop (length (sheetBytes sheet)) l
-  sheet-written l r p q e =
-      rw (e, q, p, sets-then l 0 (headerBytes (sheet .actions) (sheet .count)) (actionBytes (sheet .propositions) (sheet .actions)) 10 refl)
-      (sets-then l 0 (headerBytes (sheet .actions) (sheet .count) ++ actionBytes (sheet .propositions) (sheet .actions))
-      (nodesBytes (sheet .nodes) (sheet .count)) (10 + 2 * sheet .actions) (omega (arith, length-front))
+  -- the nodes stored behind what stands before them
+  pub sheet-written : (l : List ℕ) {x y : List ℕ} → Room sheet (length l)
+      → x ≡ sets l 0 (frontBytes (sheet .actions) (sheet .count) (sheet .propositions))
+      → y ≡ sets x (10 + 2 * sheet .actions) (nodesBytes (sheet .nodes) (sheet .count))
+      → y ≡ sheetBytes sheet ++ drop (length (sheetBytes sheet)) l
+  sheet-written l r p q =
+      rw (q, p)
+      (sets-then l 0 (frontBytes (sheet .actions) (sheet .count) (sheet .propositions)) (nodesBytes (sheet .nodes) (sheet .count)) (10 + 2 * sheet .actions)
+      (omega (arith, length-front))
       ∙ sets-front l (sheetBytes sheet) (omega (arith, length-sheet, r .room)))

@@ -54,12 +54,23 @@ headerBytes actions count =
 abbrev pub actionBytes : List ℕ → ℕ → List ℕ
 actionBytes propositions n = joined n (λ a. wordBytes (getD propositions a 0))
 
+-- What stands before the nodes.
+abbrev pub frontBytes : (actions count : ℕ) → List ℕ → List ℕ
+frontBytes actions count propositions = headerBytes actions count ++ actionBytes propositions actions
+
 abbrev pub nodesBytes : List ListedNode → ℕ → List ℕ
 nodesBytes nodes n = joined n (λ i. nodeBytes (nodeAt nodes i))
 
 abbrev pub sheetBytes : Sheet → List ℕ
 sheetBytes sheet =
-    headerBytes (sheet .actions) (sheet .count) ++ actionBytes (sheet .propositions) (sheet .actions) ++ nodesBytes (sheet .nodes) (sheet .count)
+    frontBytes (sheet .actions) (sheet .count) (sheet .propositions) ++ nodesBytes (sheet .nodes) (sheet .count)
+
+-- What writing what stands before the nodes asks.
+pub record FrontRoom (actions count listed bytes : ℕ) : Type 0 where
+  pub few-actions : actions ≤ 16
+  pub few-nodes : count ≤ 64
+  pub all-listed : actions ≤ listed
+  pub room : 10 + 2 * actions ≤ bytes
 
 -- What writing asks: counts that the arrays have room for, and as many bytes as the sheet takes, 362 at most.
 pub record Room (sheet : Sheet) (bytes : ℕ) : Type 0 where

@@ -15,6 +15,8 @@ mod writing;
 
 pub use checks::judge;
 pub use layouts::find_layout;
+pub use writing::write_front;
+pub use writing::write_node;
 pub use writing::write_sheet;
 
 // Where a sheet's areas are, or the first fault of checks 1 to 3.

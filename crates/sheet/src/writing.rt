@@ -10,7 +10,7 @@ ghost use mathlib.Core.List.{_++_};
 ghost use Prim.Native.Nat.{_≤_, _<_, _+_, _*_};
 ghost use lib.ListN.{length, drop};
 ghost use lib.Seq.{sets};
-ghost use Rattle.sheet.specs.Writing.{fieldsOf, fiveBytes, nodeBytes, headerBytes, actionBytes, nodesBytes, sheetBytes, Room};
+ghost use Rattle.sheet.specs.Writing.{fieldsOf, fiveBytes, nodeBytes, headerBytes, actionBytes, frontBytes, nodesBytes, sheetBytes, FrontRoom, Room};
 
 // The fields of a node: its kind, its argument and its parts, 0 where the kind has none.
 fn fields_of(node: Node) -> FiveFields
@@ -53,7 +53,7 @@ fn write_fields(kind: u8, argument: u8, a: u8, b: u8, c: u8, out: &mut [u8], at:
 }
 
 // Writes a node's five bytes at a place.
-fn write_node(node: Node, out: &mut [u8], at: usize)
+pub fn write_node(node: Node, out: &mut [u8], at: usize)
     requires { ⌜ at + 4 < length (now out) ⌝ }
     ensures { λ _. ⌜ now (out .exit) ≡ sets (now (out .entry)) at (nodeBytes node) ⌝ }
 {
@@ -75,15 +75,24 @@ fn write_header(actions: usize, count: usize, out: &mut [u8])
 }
 
 // Writes the action list from a place on.
-fn write_actions(propositions: [u16; 16], actions: usize, out: &mut [u8], from: usize)
-    requires { ⌜ (actions ≤ 16) × (from + 2 * actions ≤ length (now out)) ⌝ }
-    ensures { λ _. ⌜ now (out .exit) ≡ sets (now (out .entry)) from (actionBytes propositions actions) ⌝ }
+fn write_actions(propositions: &[u16], actions: usize, out: &mut [u8], from: usize)
+    requires { ⌜ (actions ≤ length (now propositions)) × (from + 2 * actions ≤ length (now out)) ⌝ }
+    ensures { λ _. ⌜ now (out .exit) ≡ sets (now (out .entry)) from (actionBytes (now (propositions .entry)) actions) ⌝ }
 {
     let mut a = 0;
     while a < actions {
         put_word(out, from + 2 * a, wide(propositions[a]));
         a += 1;
     }
+}
+
+// Writes what stands before a sheet's nodes: the header, and the first `actions` entries of an action list.
+pub fn write_front(propositions: &[u16], actions: usize, count: usize, out: &mut [u8])
+    requires { ⌜ FrontRoom actions count (length (now propositions)) (length (now out)) ⌝ }
+    ensures { λ _. ⌜ now (out .exit) ≡ sets (now (out .entry)) 0 (frontBytes actions count (now (propositions .entry))) ⌝ }
+{
+    write_header(actions, count, out);
+    write_actions(propositions, actions, out, 10);
 }
 
 // Writes the nodes from a place on.
@@ -110,7 +119,6 @@ pub fn write_sheet(sheet: Sheet, out: &mut [u8])
     let propositions = sheet.propositions;
     let nodes = sheet.nodes;
     let behind = 10 + 2 * actions;
-    write_header(actions, count, out);
-    write_actions(propositions, actions, out, 10);
+    write_front(&propositions, actions, count, out);
     write_nodes(nodes, count, out, behind);
 }

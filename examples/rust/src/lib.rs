@@ -1,4 +1,4 @@
-//! Safe wrappers of the calls of include/lemondarts.h: compile, load, and a board that owns its bytes.
+//! Safe wrappers of the calls of include/lemondarts.h: read a text, compile, load, and a board that owns its bytes.
 
 mod answer;
 mod calls;
@@ -14,12 +14,15 @@ pub const PLACES: usize = 8;
 const RECORD: usize = 16;
 const AREA: usize = 8256;
 const LONGEST_TABLE: usize = 1032;
+const LONGEST_SHEET: usize = 362;
 const TABLE_HEADER: usize = 8;
 const WORK: usize = 65_536;
 const VALUES: usize = 1024;
 const TRIP: u8 = 255;
 /// Refusals of a sheet that name a node.
 const AT_A_NODE: RangeInclusive<u16> = 4..=9;
+/// The refusal of a text that names a word.
+const AT_A_WORD: u16 = 32;
 
 /// What a table's rule does when it trips.
 #[derive(Clone, Copy, Debug, PartialEq, Eq)]
@@ -59,6 +62,14 @@ impl Table {
         assert!(row < self.rows && action < self.actions);
         Some(self.bytes[TABLE_HEADER + row * self.actions + action]).filter(|&entry| entry != TRIP)
     }
+}
+
+/// Reads a rule typed as text, over these actions: for each the set of propositions that it satisfies. Gives its sheet.
+pub fn read_text(text: &[u8], actions: &[u16]) -> Result<Vec<u8>, Refusal> {
+    let mut sheet = vec![0; LONGEST_SHEET];
+    let (length, ..) = calls::read_text(text, actions, &mut sheet).done()?;
+    sheet.truncate(length as usize);
+    Ok(sheet)
 }
 
 /// Compiles a rule sheet. The areas that the call is lent are taken from the heap and given back.

@@ -1,20 +1,9 @@
 //! Sheets of every sort.
 
-use super::{cut_or_grow, damage};
+use super::{any_of, cut_or_grow, damage, sort, Sort};
 use crate::generate::{lay_out, sheet, Random, Style};
 use crate::sheet::{Node, Sheet, HEADER};
 use crate::trees::*;
-
-/// A sort of sheets: its name, its share of a hundred, and how one is drawn.
-pub struct Sort {
-    pub name: &'static str,
-    pub share: usize,
-    pub draw: fn(&mut Random) -> Vec<u8>,
-}
-
-const fn sort(name: &'static str, share: usize, draw: fn(&mut Random) -> Vec<u8>) -> Sort {
-    Sort { name, share, draw }
-}
 
 /// All sorts.
 pub const SORTS: [Sort; 11] = [
@@ -33,14 +22,7 @@ pub const SORTS: [Sort; 11] = [
 
 /// A sheet and the name of its sort.
 pub fn any_sheet(random: &mut Random) -> (&'static str, Vec<u8>) {
-    let mut place = random.below(SORTS.iter().map(|sort| sort.share).sum());
-    for sort in &SORTS {
-        if place < sort.share {
-            return (sort.name, (sort.draw)(random));
-        }
-        place -= sort.share;
-    }
-    unreachable!("the shares cover every place")
+    any_of(&SORTS, random)
 }
 
 /// Mostly few actions and nodes, and sometimes up to the most.

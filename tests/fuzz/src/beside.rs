@@ -29,6 +29,7 @@ impl Call<'_> {
 /// The areas lent to the library, and those that the reference works on.
 pub struct Beside {
     input: Lent<u8>,
+    actions: Lent<u16>,
     out: Lent<u8>,
     work: Lent<u8>,
     values: Lent<u64>,
@@ -45,6 +46,7 @@ impl Beside {
     pub fn new() -> Beside {
         Beside {
             input: Lent::new(),
+            actions: Lent::new(),
             out: Lent::new(),
             work: Lent::new(),
             values: Lent::new(),
@@ -99,6 +101,36 @@ impl Beside {
         (report.close(&[("sheet", sheet)], &format!("lengths of out, work, values: {lengths:?}")), out)
     }
 
+    /// Reads a text with an output of this length, filled with junk; gives the output as it stands then.
+    pub fn read_text(
+        &mut self,
+        random: &mut Random,
+        text: &[u8],
+        actions: &[u16],
+        length: usize,
+    ) -> (Outcome, Vec<u8>) {
+        let mut out = vec![0; length];
+        random.fill(&mut out);
+        self.input.hold(random, text);
+        self.actions.hold(random, actions);
+        self.out.hold(random, &out);
+        let answer = library::read_text(self.input.contents(), self.actions.contents(), self.out.contents());
+
+        let before = out.clone();
+        let expected = calls::read_text(text, actions, &mut out);
+        let mut report = Report::new("read_text", answer, expected);
+        report.same("text", &mut self.input, text);
+        report.same("actions", &mut self.actions, actions);
+        report.same("out", &mut self.out, &out);
+        let [number, written, ..] = calls::fields(answer);
+        let kept = if number == 0 { (written as usize).min(length) } else { 0 };
+        if self.out.contents()[kept..] != before[kept..] {
+            report.differs("out is changed behind the sheet, or though it is refused");
+        }
+        let numbers = format!("actions: {actions:?}, length of out: {length}, text: \"{}\"", text.escape_ascii());
+        (report.close(&[], &numbers), out)
+    }
+
     /// Calls the board; record and area are left as the reference leaves them.
     pub fn board(&mut self, random: &mut Random, record: &mut [u8], area: &mut [u8], call: Call) -> Outcome {
         let (record_before, area_before) = (record.to_vec(), area.to_vec());
@@ -147,7 +179,8 @@ impl Report {
         let mut report = Report { call, answer, text: String::new() };
         if answer != expected {
             let (answer, expected) = (calls::fields(answer), calls::fields(expected));
-            report.differs(&format!("answer {answer:?}, reference {expected:?} (number, value, actions, rows)"));
+            report
+                .differs(&format!("answer {answer:?}, reference {expected:?} (number, value, actions, rows or nodes)"));
         }
         report
     }

@@ -12,6 +12,14 @@ extern "C" {
         values: *mut u64,
         values_len: usize,
     ) -> u64;
+    fn lemondarts_read_text(
+        text: *const u8,
+        text_length: usize,
+        actions: *const u16,
+        action_count: usize,
+        sheet: *mut u8,
+        sheet_length: usize,
+    ) -> u64;
     fn lemondarts_new_board(record: *mut u8, record_len: usize, area: *mut u8, area_len: usize) -> u64;
     fn lemondarts_put_on(
         record: *mut u8,
@@ -41,6 +49,19 @@ pub fn compile(sheet: &[u8], out: &mut [u8], work: &mut [u8], values: &mut [u64]
             work.len(),
             values.as_mut_ptr(),
             values.len(),
+        )
+    }
+}
+
+pub fn read_text(text: &[u8], actions: &[u16], sheet: &mut [u8]) -> u64 {
+    unsafe {
+        lemondarts_read_text(
+            text.as_ptr(),
+            text.len(),
+            actions.as_ptr(),
+            actions.len(),
+            sheet.as_mut_ptr(),
+            sheet.len(),
         )
     }
 }

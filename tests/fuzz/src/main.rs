@@ -13,7 +13,9 @@ use reference::calls::{fields, VALUES, WORK};
 use reference::generate::Random;
 use reference::inputs::sheets::any_sheet;
 use reference::inputs::tables::Pool;
+use reference::inputs::texts::{any_actions, any_text};
 use reference::table::LARGEST;
+use reference::text::OUTPUT;
 use std::collections::BTreeMap;
 
 /// So many disagreements are printed; then the run ends.
@@ -47,9 +49,13 @@ impl Fuzz {
 
     fn sheet(&mut self) {
         let (sort, sheet) = any_sheet(&mut self.random);
+        self.compile(sort, &sheet);
+    }
+
+    fn compile(&mut self, sort: &'static str, sheet: &[u8]) {
         let lengths = [LARGEST, WORK, VALUES].map(|length| about(&mut self.random, length));
         let short = lengths[0] < LARGEST || lengths[1] < WORK || lengths[2] < VALUES;
-        let (outcome, out) = self.beside.compile(&mut self.random, &sheet, lengths);
+        let (outcome, out) = self.beside.compile(&mut self.random, sheet, lengths);
         if let Ok(answer) = &outcome {
             let [number, _, actions, rows] = fields(*answer);
             if number == 0 {
@@ -57,6 +63,24 @@ impl Fuzz {
             }
         }
         self.count(if short { "sheet, an area too short" } else { sort }, "compile", outcome);
+    }
+
+    /// Reads a text, and compiles the sheet that it gives.
+    fn text(&mut self) {
+        let (sort, text) = any_text(&mut self.random);
+        let actions = any_actions(&mut self.random);
+        let length = match self.random.below(100) {
+            0 => OUTPUT - 1,
+            1 => self.random.below(OUTPUT),
+            2..=69 => OUTPUT,
+            _ => OUTPUT + self.random.below(39),
+        };
+        let (outcome, out) = self.beside.read_text(&mut self.random, &text, &actions, length);
+        let read = outcome.as_ref().map_or([14, 0, 0, 0], |answer| fields(*answer));
+        self.count(sort, "read_text", outcome);
+        if read[0] == 0 {
+            self.compile("sheet, of a text", &out[..read[1] as usize]);
+        }
     }
 
     fn table(&mut self) {
@@ -119,17 +143,18 @@ fn main() {
         disagreements: 0,
     };
     while fuzz.calls < calls && fuzz.disagreements < ENOUGH {
-        match fuzz.random.below(100) {
+        match fuzz.random.below(140) {
             0..=39 => fuzz.sheet(),
             40..=69 => fuzz.table(),
             70..=98 => fuzz.board(),
+            99..=138 => fuzz.text(),
             _ => fuzz.history(),
         }
     }
     println!("inputs by sort");
     fuzz.sorts.iter().for_each(|(sort, count)| println!("{count:>9}  {sort}"));
     println!("answers by call and number (0 done, 255 denied)");
-    for name in ["compile", "load", "new_board", "put_on", "take_off", "action"] {
+    for name in ["read_text", "compile", "load", "new_board", "put_on", "take_off", "action"] {
         let of_call = fuzz.answers.iter().filter(|((call, _), _)| *call == name);
         let list: Vec<String> = of_call.map(|((_, number), count)| format!("{number}: {count}")).collect();
         println!("{name:>9}  {}", list.join(", "));

@@ -12,26 +12,26 @@ use Rattle.sheet.proofs.writing.write_actions.Statement.{statement}
 use Rattle.sheet.proofs.writing.write_actions.Tie as tie
 
 abbrev Inv-loop : tie.InvT-loop
-Inv-loop actions out₀ from propositions a₀ out a = (a ≤ actions) × (length out ≡ length out₀) × (out ≡ sets out₀ from (actionBytes propositions a))
+Inv-loop propositions actions out₀ from a₀ out a = (a ≤ actions) × (length out ≡ length out₀) × (out ≡ sets out₀ from (actionBytes propositions a))
 
 abbrev μ-loop : tie.MeasureT-loop
-μ-loop actions out₀ from propositions a₀ out a = actions - a
+μ-loop propositions actions out₀ from a₀ out a = actions - a
 
 loop-again : tie.Need-loop-again Inv-loop μ-loop
 loop-again c =
     let p = c .before .before in
-    let l = p .before .before .before .before .loop in
-    let s = p .before .before .before .before .before .before in (
+    let l = p .before .before .before .before .before .loop in
+    let s = p .before .before .before .before .before .before .before .before in (
       search needs,
       search needs,
-      rw (p .put-word .ensures, p .before .wide .ensures, l .inv .2) (actions-more (s .args .out .now) (s .args .from) (s .args .t1) (l .a)),
+      rw (p .put-word .ensures, p .before .wide .ensures, l .inv .2) (actions-more (s .args .out .now) (s .args .from) (s .args .propositions .now) (l .a)),
     )
 
 returns : tie.Need-returns Inv-loop μ-loop
 returns c =
-    let s = c .before .before .before in
+    let s = c .before .before .before .before in
     let e : c .before .loop .a ≡ s .args .actions = omega arith in
-    c .before .loop .inv .2 ∙ ap (λ (a : ℕ). sets (s .args .out .now) (s .args .from) (actionBytes (s .args .t1) a)) e
+    c .before .loop .inv .2 ∙ ap (λ (a : ℕ). sets (s .args .out .now) (s .args .from) (actionBytes (s .args .propositions .now) a)) e
 
 pub write-actions-spec : {M : Type 1} → statement M
 write-actions-spec =

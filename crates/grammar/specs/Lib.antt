@@ -1,0 +1,7 @@
+pub mod Words
+pub mod Spelling
+pub mod Grammar
+pub mod Productions
+pub mod Nodes
+pub mod Language
+pub mod Sheets

@@ -1,0 +1,16 @@
+// Reads a rule file from standard input and prints the rule's table, or its refusal and what to do. The first line of the file is the action list,
+// what stands behind it is the rule's text.
+mod actions;
+mod compiling;
+mod nodes;
+mod output;
+mod refusals;
+mod rule;
+mod words;
+
+// The buffer holds one byte more than the longest file: longer input fills it.
+fn main() {
+    let mut input = io::large_buffer();
+    let length = io::read_full(0, &mut input);
+    rule::answer(&input[..length]);
+}

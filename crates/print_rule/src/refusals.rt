@@ -1,0 +1,171 @@
+// What a refusal of the file or of the text means, and what to do.
+use crate::output::say;
+use crate::output::say_behind;
+use crate::output::say_number;
+use crate::output::say_word;
+use crate::words::is_plain;
+use crate::words::newlines;
+use crate::words::same;
+use crate::words::word_behind;
+use grammar::Category;
+ghost use Prim.Native.Nat.{_≤_};
+ghost use lib.ListN.{length};
+
+// What the first line of a file is to be.
+fn say_list() {
+    say(
+        b"the first line lists the actions, parted by blanks: each is the propositions that hold of it, p0 to p15, joined by + (p0+p2), or - where none does\n",
+    );
+}
+
+// Whether a word ends as lines do under Windows, and if so says it.
+fn say_return(word: &[u8]) -> bool {
+    let length = word.len();
+    if length == 0 {
+        return false;
+    }
+    if word[length - 1] != 13 {
+        return false;
+    }
+    say(b": \\x0d is a carriage return; save the file with newlines alone");
+    true
+}
+
+// A word of the first line, behind so many actions, is no action.
+pub fn tell_no_action(word: &[u8], behind: usize) {
+    say(b"action list: ");
+    say_behind(behind, b"action");
+    say(b": ");
+    say_word(word);
+    say(b" is no action");
+    say_return(word);
+    say(b"\n");
+    say_list();
+}
+
+// 2: no action, or too many.
+pub fn tell_actions(count: usize) {
+    if count == 0 {
+        say(b"the first line lists no action\n");
+        say_list();
+        return;
+    }
+    say(b"the first line lists ");
+    say_number(count);
+    say(b" actions, and 16 are the most: take some away\n");
+}
+
+// 31.
+pub fn tell_long(length: usize) {
+    say(b"the rule has ");
+    say_number(length);
+    say(b" bytes, and 1024 are the most: shorten it, or split it over several places\n");
+}
+
+// 31, of a file that was not read to its end.
+pub fn tell_long_file() {
+    say(
+        b"the file has over 65535 bytes, and a rule 1024 at the most: shorten it, or split it over several places\n",
+    );
+}
+
+// 33.
+pub fn tell_nodes() {
+    say(
+        b"the rule has over 64 nodes, which are its words but for the first one and the numbers: shorten it, or split it over several places\n",
+    );
+}
+
+// A word of the rule and where it stands. The rule begins on line 2.
+pub fn say_place(text: &[u8], words: usize)
+    requires { ⌜ length (now text) ≤ 65535 ⌝ }
+{
+    let span = word_behind(text, words);
+    let from = span.from;
+    let to = span.to;
+    say(b"line ");
+    say_number(2 + newlines(text, from));
+    say(b", ");
+    say_behind(words, b"word");
+    say(b" of the rule: ");
+    say_word(&text[from..to]);
+}
+
+// The words that can stand where one does not fit.
+fn say_expected(expected: Category) {
+    match expected {
+        Category::Text => say(b"here the rule is to begin: watch, enforce\n"),
+        Category::Watched => say(
+            b"here a watched policy is to come: now, count, not, and, or, eventually, before, after, ignoring\n",
+        ),
+        Category::Enforced => say(
+            b"here an enforced policy is to come: holds, not, and, or, always, before, after, fulfilling, ignoring\n",
+        ),
+        Category::Formula => say(
+            b"here a formula is to come: true, false, p0 to p15, not, and, or\n",
+        ),
+        Category::Number => say(b"here a number is to come: 1 to 60, without leading zero\n"),
+        Category::End => say(b"here the rule is to end\n"),
+    }
+}
+
+fn is_watched(word: &[u8]) -> bool {
+    same(word, b"now") | same(word, b"count") | same(word, b"eventually")
+}
+
+fn is_enforced(word: &[u8]) -> bool {
+    same(word, b"holds") | same(word, b"always") | same(word, b"fulfilling")
+}
+
+// Why a word does not fit, where there is more to say.
+fn say_why(word: &[u8], expected: Category) {
+    if say_return(word) {
+        return;
+    }
+    if !is_plain(word) {
+        say(b": words are of small letters and digits, parted by blanks or newlines");
+        return;
+    }
+    match expected {
+        Category::Enforced => {
+            if is_watched(word) {
+                say(b": it can be watched, and not enforced");
+            }
+        }
+        Category::Watched => {
+            if is_enforced(word) {
+                say(b": it can be enforced, and not watched");
+            }
+        }
+        _ => {}
+    }
+}
+
+fn tell_misfit(word: &[u8], expected: Category) {
+    if let Category::End = expected {
+        say(b" stands behind a whole rule: take it away\n");
+        return;
+    }
+    say(b" does not fit");
+    say_why(word, expected);
+    say(b"\n");
+    say_expected(expected);
+}
+
+// 32, behind so many words.
+pub fn tell_unreadable(text: &[u8], words: usize, expected: Category)
+    requires { ⌜ length (now text) ≤ 65535 ⌝ }
+{
+    let span = word_behind(text, words);
+    let from = span.from;
+    let to = span.to;
+    if from == to {
+        say(b"the text ends too soon, ");
+        say_behind(words, b"word");
+        say(b"\n");
+        say_expected(expected);
+        return;
+    }
+    say_place(text, words);
+    tell_misfit(&text[from..to], expected);
+}

@@ -1,0 +1,7 @@
+pub mod Arms
+pub mod Misfits
+pub mod Parts
+pub mod SheetWritten
+pub mod TextAnswers
+pub mod WholeText
+pub mod Writing

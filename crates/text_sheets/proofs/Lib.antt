@@ -1,0 +1,12 @@
+pub mod Each
+pub mod Padded
+pub mod FormedNodes
+pub mod Writable
+pub mod Meanings
+pub mod Bounds
+pub mod Blocks
+pub mod Wholes
+pub mod Waited
+pub mod TypedNodes
+pub mod TypedWaits
+pub mod TextTyped
