@@ -106,7 +106,7 @@ int main(void) {
     size_t bare = used(nothing);
     int wrong = 0;
     make_table();
-    make_text("watch ", "eventually ", 62, "now p0");
+    make_text("enforce ", "always ", 62, "holds p0");
     wrong |= show("read_text, 64 nodes", read_text, bare, LEMONDARTS_STACK_TEXT, LEMONDARTS_DONE);
     make_text("enforce ", "or ", 338, "or");
     wrong |= show("read_text, 1,024 bytes", read_text, bare, LEMONDARTS_STACK_TEXT, LEMONDARTS_BAD_TEXT);

@@ -12,7 +12,7 @@
  * - Threads: nothing is kept between calls, so calls on different boards and areas may run at once. Calls on one board, or with one work area,
  *   come one after the other: the caller holds a lock.
  * - Stack: compiling takes some 39 KiB, loading and putting on some 3.2 KiB, the others under 1 KiB;
- *   reading a text some 198 KiB for the deepest that 1,024 bytes can say, 34 KiB for one that gives a sheet.
+ *   reading a text some 33 KiB for the deepest that 1,024 bytes can say, 6.5 KiB for one that gives a sheet.
  *   LEMONDARTS_STACK_.. below is what to plan for; examples/stack.c measures it.
  * - Nothing else is asked of the caller: the contracts of the calls have no precondition.
  *
@@ -34,8 +34,8 @@
  */
 #define LEMONDARTS_VERSION_MAJOR 4
 #define LEMONDARTS_VERSION_MINOR 2
-#define LEMONDARTS_VERSION_PATCH 0
-#define LEMONDARTS_VERSION "4.2.0"
+#define LEMONDARTS_VERSION_PATCH 1
+#define LEMONDARTS_VERSION "4.2.1"
 
 /* Lengths. An area may be longer; what stands behind these lengths is not touched. */
 #define LEMONDARTS_RECORD 16     /* a board's record, in bytes */
@@ -46,7 +46,7 @@
 
 /* Stack, in bytes: at most this much in a call, rounded up, without what the caller and an interrupt take. */
 #define LEMONDARTS_STACK_COMPILE 49152 /* lemondarts_compile */
-#define LEMONDARTS_STACK_TEXT 212992   /* lemondarts_read_text */
+#define LEMONDARTS_STACK_TEXT 40960    /* lemondarts_read_text */
 #define LEMONDARTS_STACK_LOAD 4096     /* lemondarts_load, lemondarts_put_on */
 #define LEMONDARTS_STACK_CALL 1024     /* the other calls */
 

@@ -2,15 +2,14 @@
 -- Assumes nothing.
 use mathlib.Core.Path.{_≡_, refl, sym, subst, _∙_, ap}
 use mathlib.Core.Bool.{Bool, true, false}
-use mathlib.Core.List.{[], _∷_}
+use mathlib.Core.List.{List, [], _∷_}
 use Prim.Native.Nat.{ℕ, _≤_}
-use Prim.Native.String.{String}
 use native.Mathlib.Omega.{arith}
 use lib.Dec.{T, eqb, leb, leb→le}
 use lib.ListN.{getD, drop}
 use borrow.Author.Tests.{eqb-true, leb-true, le-leb, ne-eqb}
 use Rattle.grammar.specs.Words.{Word}
-use Rattle.grammar.specs.Spelling.{word, digits, numberWord, propositionWord, same, valueOf, isNumber, isProposition, whether, tokenOf}
+use Rattle.grammar.specs.Spelling.{word, digits, numberWord, propositionWord, same, valueOf, isNumber, isProposition, whether, Keyword, keywords, tokenIn, tokenOf}
 use Rattle.grammar.specs.declared.Token.{Token}
 use Rattle.grammar.specs.declared.Token.the-variants.{Watch, Enforce, Now, Holds, Count, Not, And, Or, Eventually, Always, Before, After, Fulfilling, Ignoring, True, False, Proposition, Number, Other}
 use Rattle.base.proofs.Truths.{not-true, and-true}
@@ -38,6 +37,10 @@ Spelled (Proposition p) w = (p ≤ 15) × (w ≡ propositionWord p)
 Spelled (Number k) w = (1 ≤ k) × (k ≤ 60) × (w ≡ numberWord k)
 Spelled Other w = Unit {0}
 
+abbrev AllSpelled : List Keyword → Type 0
+AllSpelled [] = Unit {0}
+AllSpelled (k ∷ rest) = Spelled (k .token) (k .letters) × AllSpelled rest
+
 record SpelledAs (t : Token) (w : Word) : Type 0 where
   spelled : Spelled t w
 
@@ -62,9 +65,11 @@ module _ (w : Word) where
   pick true t f g = record { spelled = f refl }
   pick false t f g = g
 
-  keyword : (letters : String) (t : Token) {others : Token} → Spelled t (word letters) → SpelledAs others w
-      → SpelledAs (whether (same w (word letters)) t others) w
-  keyword letters t h g = pick (same w (word letters)) t (λ e. subst (Spelled t) (sym (same-true w (word letters) e)) h) g
+  -- a table of words, each spelled as its token
+  in-table : (table : List Keyword) → AllSpelled table → {others : Token} → SpelledAs others w → SpelledAs (tokenIn table w others) w
+  in-table [] h g = g
+  in-table (k ∷ rest) h g =
+      pick (same w (k .letters)) (k .token) (λ e. subst (Spelled (k .token)) (sym (same-true w (k .letters) e)) (h .0)) (in-table rest (h .1) g)
 
   number-spelled : isNumber w ≡ true → Spelled (Number (valueOf w)) w
   number-spelled e =
@@ -75,24 +80,9 @@ module _ (w : Word) where
   spelled-as : SpelledAs (tokenOf w) w
   unfolding tokenOf
   spelled-as =
-      keyword "watch" Watch refl
-      (keyword "enforce" Enforce refl
-      (keyword "now" Now refl
-      (keyword "holds" Holds refl
-      (keyword "count" Count refl
-      (keyword "not" Not refl
-      (keyword "and" And refl
-      (keyword "or" Or refl
-      (keyword "eventually" Eventually refl
-      (keyword "always" Always refl
-      (keyword "before" Before refl
-      (keyword "after" After refl
-      (keyword "fulfilling" Fulfilling refl
-      (keyword "ignoring" Ignoring refl
-      (keyword "true" True refl
-      (keyword "false" False refl
+      in-table keywords (refl, (refl, (refl, (refl, (refl, (refl, (refl, (refl, (refl, (refl, (refl, (refl, (refl, (refl, (refl, (refl, tt))))))))))))))))
       (pick (isProposition w) (Proposition (valueOf (drop 1 w))) (proposition-spelled w)
-      (pick (isNumber w) (Number (valueOf w)) number-spelled (record { spelled = tt }))))))))))))))))))
+      (pick (isNumber w) (Number (valueOf w)) number-spelled (record { spelled = tt })))
 
 pub token-spelled : (w : Word) → Spelled (tokenOf w) w
 token-spelled w = spelled-as w .spelled

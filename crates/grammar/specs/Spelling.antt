@@ -61,24 +61,39 @@ unfoldable pub whether : Bool → Token → Token → Token
 whether true token others = token
 whether false token others = others
 
+-- The language's own words: how each is spelled.
+pub record Keyword : Type 0 where
+  pub letters : Word
+  pub token : Token
+
+abbrev pub keyword : String → Token → Keyword
+keyword letters token = record { letters = word letters; token = token }
+
+abbrev pub keywords : List Keyword
+keywords =
+    keyword "watch" Watch
+    ∷ keyword "enforce" Enforce
+    ∷ keyword "now" Now
+    ∷ keyword "holds" Holds
+    ∷ keyword "count" Count
+    ∷ keyword "not" Not
+    ∷ keyword "and" And
+    ∷ keyword "or" Or
+    ∷ keyword "eventually" Eventually
+    ∷ keyword "always" Always
+    ∷ keyword "before" Before
+    ∷ keyword "after" After
+    ∷ keyword "fulfilling" Fulfilling
+    ∷ keyword "ignoring" Ignoring
+    ∷ keyword "true" True
+    ∷ keyword "false" False
+    ∷ []
+
+-- the token of the first that a word is, else what the others say
+abbrev pub tokenIn : List Keyword → Word → Token → Token
+tokenIn [] w others = others
+tokenIn (k ∷ rest) w others = whether (same w (k .letters)) (k .token) (tokenIn rest w others)
+
 -- Which of the language's words a word is.
 unfoldable pub tokenOf : Word → Token
-tokenOf w =
-    whether (same w (word "watch")) Watch
-    (whether (same w (word "enforce")) Enforce
-    (whether (same w (word "now")) Now
-    (whether (same w (word "holds")) Holds
-    (whether (same w (word "count")) Count
-    (whether (same w (word "not")) Not
-    (whether (same w (word "and")) And
-    (whether (same w (word "or")) Or
-    (whether (same w (word "eventually")) Eventually
-    (whether (same w (word "always")) Always
-    (whether (same w (word "before")) Before
-    (whether (same w (word "after")) After
-    (whether (same w (word "fulfilling")) Fulfilling
-    (whether (same w (word "ignoring")) Ignoring
-    (whether (same w (word "true")) True
-    (whether (same w (word "false")) False
-    (whether (isProposition w) (Proposition (valueOf (drop 1 w)))
-    (whether (isNumber w) (Number (valueOf w)) Other)))))))))))))))))
+tokenOf w = tokenIn keywords w (whether (isProposition w) (Proposition (valueOf (drop 1 w))) (whether (isNumber w) (Number (valueOf w)) Other))

@@ -12,9 +12,10 @@ use Rattle.board.specs.Calls.{Reply, permitted, denied, input, Makes, made, mak
 use Rattle.board.specs.Calls.{TakesOff, Taking, take-13, take-25, take-21, taken-off, Acts, Acting, act-25, act-24, act-12, act-denied, act-permitted, fulfilsAt, setBelow}
 use Rattle.board.specs.declared.Board.{Board}
 use Rattle.board.proofs.Scanning.{set-byte}
-use Rattle.lemondarts.specs.Numbers.{fieldSize, fieldIn, pack, packedReply, packedAnswer}
+use Rattle.base.specs.Fields.{fieldSize, fieldIn}
+use Rattle.answers.specs.Numbers.{pack, packedReply, packedAnswer}
 use Rattle.lemondarts.specs.Session.{numberIn, valueIn, replyBy, changeReply, actionReply}
-use Rattle.lemondarts.proofs.Fields.{field-back}
+use Rattle.base.proofs.Fields.{field-back}
 
 -- A number and a value within their fields.
 module _ (number value : ℕ) where

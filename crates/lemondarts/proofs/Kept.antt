@@ -12,10 +12,10 @@ use Rattle.board.specs.Calls.{Reply, input, Calls, short, called, PutsOn, Putti
 use Rattle.board.specs.Calls.{TakesOff, Taking, take-13, take-25, take-21, taken-off, Acts, Acting, act-25, act-24, act-12, act-denied, act-permitted}
 use Rattle.board.specs.declared.Board.{Board}
 use Rattle.board.proofs.PlaceLaws.{length-with-case, length-board-by}
-use Rattle.lemondarts.specs.Record.{boardOf, written}
-use Rattle.lemondarts.specs.Numbers.{changes}
+use Rattle.records.specs.Record.{boardOf, written}
+use Rattle.answers.specs.Numbers.{changes}
 use Rattle.lemondarts.specs.Exports.{recordAfter}
-use Rattle.lemondarts.proofs.ReadBack.{eight-places, read-back}
+use Rattle.records.proofs.ReadBack.{eight-places, read-back}
 
 pub made-kept : (bytes : List ℕ) → boardOf (written emptyBoard bytes) ≡ emptyBoard
 made-kept bytes = read-back emptyBoard bytes refl

@@ -1,10 +1,7 @@
 pub mod Returning
-pub mod ReadBack
 pub mod Kept
-pub mod Fields
 pub mod Answers
 pub mod Sessions
-pub mod CompileNumbers
 pub mod Spots
 pub mod TextNumbers
 pub mod SessionLaws

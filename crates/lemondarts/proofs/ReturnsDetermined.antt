@@ -9,10 +9,11 @@ use Rattle.table.proofs.Loading.{load-determined}
 use Rattle.compiler_laws.proofs.Calls.{call-determined}
 use Rattle.histories.proofs.CallsDetermined.{makes-determined, puts-on-determined, takes-off-determined, acts-determined}
 use Rattle.text_laws.proofs.Outcomes.{text-determined}
-use Rattle.lemondarts.specs.Numbers.{packedReply, packedAnswer}
+use Rattle.answers.specs.Numbers.{packedReply, packedAnswer}
 use Rattle.lemondarts.specs.Exports.{LoadReturns, Returns, short-record, called, recordAfter, NewBoardReturns, PutOnReturns, TakeOffReturns, ActionReturns}
 use Rattle.lemondarts.specs.Compiling.{CompileReturns}
-use Rattle.lemondarts.specs.Texts.{packedText, TextReturns}
+use Rattle.answers.specs.Texts.{packedText}
+use Rattle.lemondarts.specs.Texts.{TextReturns}
 
 pub load-returns-determined : {table : List ℕ} {returned other : ℕ} → LoadReturns table returned → LoadReturns table other → returned ≡ other
 load-returns-determined {table} p q = p .number ∙ ap packedAnswer (load-determined table (p .answer) (q .answer) (p .loads) (q .loads)) ∙ sym (q .number)

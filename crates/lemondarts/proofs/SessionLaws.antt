@@ -10,8 +10,8 @@ use Rattle.board.specs.Calls.{Reply, done, permitted, denied, Acts}
 use Rattle.board.specs.declared.Board.{Board}
 use Rattle.histories.specs.History.{Event, MayPut, MayTake, Listed, Violated, NoneViolated, FirstFulfilled, Member, IsPermitted}
 use Rattle.histories.proofs.History.{put-exactly, take-exactly, permit-exactly, deny-otherwise, fulfilled-exactly}
-use Rattle.lemondarts.specs.Record.{boardOf}
-use Rattle.lemondarts.specs.Numbers.{packedReply}
+use Rattle.records.specs.Record.{boardOf}
+use Rattle.answers.specs.Numbers.{packedReply}
 use Rattle.lemondarts.specs.Exports.{Returns, short-record, called, PutOnReturns, TakeOffReturns, ActionReturns}
 use Rattle.lemondarts.specs.Session.{numberIn, valueIn, replyBy, changeReply, actionReply, Session}
 use Rattle.lemondarts.proofs.Answers.{number-of, put-answer, take-answer, act-answer}

@@ -74,15 +74,15 @@ module _ {text actions sheet sheet' : List ℕ} {bytes count nodes : ℕ} (call 
       })
 
 -- A text that is read, 0 returned, and whose sheet is compiled, 0 returned: the table in the output comes from the text.
-pub text-makes-table : {text actions sheet sheet' out work values out' work' values' : List ℕ} {returned returned' : ℕ} → Narrow actions
+pub text-makes-table : {text actions sheet sheet' out work values out' work' values' : List ℕ} {returned returned' : ℕ}
     → TextReturns text actions sheet returned sheet' → numberIn returned ≡ 0
     → CompileReturns (take (valueIn returned) sheet') out work values returned' out' work' values' → numberIn returned' ≡ 0
     → TableFrom text actions (tableIn returned' out')
-text-makes-table narrow r read c compiled =
+text-makes-table r read c compiled =
     let call = text-zero r read in
     let few = sheet-exactly call .0 tt .1 in
     let says = subst (Says (c .answer)) (sym (c .number)) (compile-says (c .compiles)) in
-    makes call (few .within .reads) narrow _ (c .answer) (c .compiles) says compiled
+    makes call (few .within .reads) (r .narrow) _ (c .answer) (c .compiles) says compiled
 
 module _ {events : List Event} {bytes area : List ℕ} (s : Session events bytes area) {action returned : ℕ} {bytes' area' : List ℕ}
     (r : ActionReturns bytes area action returned bytes' area') where

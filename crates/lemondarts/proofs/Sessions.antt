@@ -12,11 +12,11 @@ use Rattle.board.specs.Places.{emptyBoard}
 use Rattle.histories.specs.History.{Event, put-on, take-off, act, History, new}
 use Rattle.histories.specs.History as history
 use Rattle.board.specs.declared.Board.{Board}
-use Rattle.lemondarts.specs.Record.{recordLength, boardOf, written}
-use Rattle.lemondarts.specs.Numbers.{packedReply, changes}
+use Rattle.records.specs.Record.{recordLength, boardOf, written}
+use Rattle.answers.specs.Numbers.{packedReply, changes}
 use Rattle.lemondarts.specs.Exports.{recordAfter, short-record, called, NewBoardReturns, PutOnReturns, TakeOffReturns, ActionReturns}
 use Rattle.lemondarts.specs.Session.{changeReply, actionReply, Session, begun, then-put, then-take, then-act}
-use Rattle.lemondarts.proofs.ReadBack.{length-written}
+use Rattle.records.proofs.ReadBack.{length-written}
 use Rattle.lemondarts.proofs.Kept.{made-kept, put-kept, take-kept, act-kept}
 use Rattle.lemondarts.proofs.Answers.{put-answer, take-answer, act-answer}
 

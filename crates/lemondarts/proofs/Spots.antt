@@ -9,7 +9,7 @@ use Rattle.compiler.specs.Compiles.{Compiles}
 use Rattle.compiler.specs.Calling.{CompilesInto, short, compiles}
 use Rattle.compiler_laws.proofs.CompiledTable.{compiled-as}
 use Rattle.compiler_laws.proofs.Spots.{refused-low}
-use Rattle.lemondarts.specs.Numbers.{packedAnswer}
+use Rattle.answers.specs.Numbers.{packedAnswer}
 use Rattle.lemondarts.proofs.Answers.{Says, table-says, refused-says}
 
 compiles-says : (bytes : List ℕ) (answer : Answer) {written : List ℕ} → Compiles bytes 1024 64 answer written → Says answer (packedAnswer answer)

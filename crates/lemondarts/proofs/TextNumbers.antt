@@ -8,10 +8,11 @@ use Rattle.text_reader.specs.Calling.{TextAnswer, written, refused, unreadable,
 use Rattle.text_laws.proofs.Exactly.{sheet-exactly}
 use Rattle.text_laws.proofs.Written.{sheet-counts}
 use Rattle.text_laws.proofs.FewWords.{spot-low}
-use Rattle.lemondarts.specs.Numbers.{fieldIn}
+use Rattle.base.specs.Fields.{fieldIn}
 use Rattle.lemondarts.specs.Session.{numberIn, valueIn}
-use Rattle.lemondarts.specs.Texts.{packedText, TextReturns}
-use Rattle.lemondarts.proofs.Fields.{field-back}
+use Rattle.answers.specs.Texts.{packedText}
+use Rattle.lemondarts.specs.Texts.{TextReturns}
+use Rattle.base.proofs.Fields.{field-back}
 use Rattle.lemondarts.proofs.Answers.{number-of, value-of}
 
 -- The number of a written sheet: 0, and its length in bytes, its actions and its nodes.

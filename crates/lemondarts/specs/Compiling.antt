@@ -5,7 +5,7 @@ use mathlib.Core.List.{List}
 use Prim.Native.Nat.{ℕ}
 use Rattle.table.specs.Answer.{Answer}
 use Rattle.compiler.specs.Calling.{CompilesInto}
-use Rattle.lemondarts.specs.Numbers.{packedAnswer}
+use Rattle.answers.specs.Numbers.{packedAnswer}
 
 -- The number of what the compiler answers, with the table, the bytes and the numbers that it leaves.
 pub record CompileReturns (sheet out work values : List ℕ) (returned : ℕ) (out' work' values' : List ℕ) : Type 0 where

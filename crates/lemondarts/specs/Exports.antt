@@ -8,8 +8,8 @@ use lib.ListN.{length}
 use Rattle.table.specs.Answer.{Answer, Loads}
 use Rattle.board.specs.Calls.{Reply, input, Makes, PutsOn, TakesOff, Acts}
 use Rattle.board.specs.declared.Board.{Board}
-use Rattle.lemondarts.specs.Record.{recordLength, boardOf, written}
-use Rattle.lemondarts.specs.Numbers.{packedReply, packedAnswer, changes}
+use Rattle.records.specs.Record.{recordLength, boardOf, written}
+use Rattle.answers.specs.Numbers.{packedReply, packedAnswer, changes}
 
 -- The loader: the number of what it answers.
 pub record LoadReturns (table : List ℕ) (returned : ℕ) : Type 0 where

@@ -1,5 +1,3 @@
-pub mod Record
-pub mod Numbers
 pub mod Exports
 pub mod Session
 pub mod Compiling

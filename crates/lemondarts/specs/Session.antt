@@ -6,7 +6,7 @@ use Prim.Native.Nat.{ℕ}
 use lib.Dec.{eqb, ltb}
 use Rattle.board.specs.Calls.{Reply, done, permitted, denied, input, state}
 use Rattle.histories.specs.History.{Event, put-on, take-off, act}
-use Rattle.lemondarts.specs.Numbers.{fieldIn}
+use Rattle.base.specs.Fields.{fieldIn}
 use Rattle.lemondarts.specs.Exports.{NewBoardReturns, PutOnReturns, TakeOffReturns, ActionReturns}
 
 -- The lowest field of a returned number, and the next.

@@ -7,7 +7,7 @@ use Prim.Native.Nat.{ℕ, _+_, _*_}
 use lib.ListN.{take}
 use Rattle.histories.specs.History.{Event, put-on, take-off, act, isDone}
 use Rattle.text_laws.specs.Boards.{FromText}
-use Rattle.lemondarts.specs.Numbers.{fieldIn}
+use Rattle.base.specs.Fields.{fieldIn}
 
 -- The table in an output, as long as the number says that compiling returned.
 abbrev pub tableIn : ℕ → List ℕ → List ℕ

@@ -1,19 +1,19 @@
 // The calls. Each reads the board from its bytes, makes the call that it wraps, and writes the board back where the answer changes it.
-use crate::NumberedReply;
-use crate::encoding::RECORD;
-use crate::encoding::read_board;
-use crate::encoding::write_board;
-use crate::numbers::act_answer;
-use crate::numbers::load_number;
-use crate::numbers::made_answer;
-use crate::numbers::put_answer;
-use crate::numbers::take_answer;
+use answers::NumberedReply;
+use answers::act_answer;
+use answers::load_number;
+use answers::made_answer;
+use answers::put_answer;
+use answers::take_answer;
 use board::Board;
+use records::RECORD;
+use records::read_board;
+use records::write_board;
 ghost use mathlib.Core.Path.{_≡_};
 ghost use mathlib.Core.Bool.{cond};
 ghost use Prim.Native.Nat.{_≤_};
 ghost use lib.ListN.{length};
-ghost use Rattle.lemondarts.specs.Record.{recordLength, written};
+ghost use Rattle.records.specs.Record.{recordLength, written};
 ghost use Rattle.lemondarts.specs.Exports.{LoadReturns, NewBoardReturns, PutOnReturns, TakeOffReturns, ActionReturns};
 
 // Writes the board back where the answer changes it, and returns the answer's number.

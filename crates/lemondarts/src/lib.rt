@@ -1,8 +1,6 @@
 // The public calls for C: numbers and byte slices only, a board as a record of bytes, an answer as one number. include/lemondarts.h declares them.
 mod calls;
 mod compiling;
-mod encoding;
-mod numbers;
 mod texts;
 
 pub use calls::lemondarts_action;
@@ -12,6 +10,3 @@ pub use calls::lemondarts_put_on;
 pub use calls::lemondarts_take_off;
 pub use compiling::lemondarts_compile;
 pub use texts::lemondarts_read_text;
-
-// An answer: its number, and whether it changes the board.
-pub struct NumberedReply(pub u64, pub bool);

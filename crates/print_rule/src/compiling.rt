@@ -51,7 +51,7 @@ fn tell_size(text: &[u8], sheet: &[u8], node: usize, grown: &[u8])
 }
 
 // What compiling the sheet of a text answers, where that is a refusal.
-pub fn tell_compiled(compiled: Compiled, text: &[u8], sheet: &[u8])
+pub(crate) fn tell_compiled(compiled: Compiled, text: &[u8], sheet: &[u8])
     requires { ⌜ length (now text) ≤ 65535 ⌝ }
 {
     match compiled {

@@ -70,7 +70,7 @@ fn own_words(sheet: &[u8], node: usize) -> usize
 }
 
 // How many words of the text stand before a node's. One is the first, which no node is.
-pub fn words_before(sheet: &[u8], node: usize) -> usize {
+pub(crate) fn words_before(sheet: &[u8], node: usize) -> usize {
     let mut words = 1;
     let mut k = 0;
     while k < 64 {
@@ -83,7 +83,7 @@ pub fn words_before(sheet: &[u8], node: usize) -> usize {
 }
 
 // The bound of a node's first part.
-pub fn bound_under(sheet: &[u8], node: usize) -> Bound {
+pub(crate) fn bound_under(sheet: &[u8], node: usize) -> Bound {
     let judged = sheet::judge(sheet);
     let types = judged.types;
     match syntax::type_at(types, first_part(sheet, node)) {

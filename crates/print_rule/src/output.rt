@@ -2,16 +2,16 @@
 ghost use Prim.Native.Nat.{_≤_, _<_};
 ghost use lib.ListN.{length};
 
-pub fn say(words: &[u8]) {
+pub(crate) fn say(words: &[u8]) {
     io::write_all(1, words);
 }
 
-pub fn say_number(n: usize) {
+pub(crate) fn say_number(n: usize) {
     io::print_decimal(1, n as u64);
 }
 
 // The line of a refusal, as print_table has it.
-pub fn say_refusal(number: usize, spot: usize) {
+pub(crate) fn say_refusal(number: usize, spot: usize) {
     let mut text = printing::room();
     let printed = printing::print_refusal(number, spot, &mut text);
     io::write_all(1, printing::written(printed, &text));
@@ -42,7 +42,7 @@ fn shown(length: usize) -> usize
 }
 
 // A word in quotes, cut behind 40 bytes.
-pub fn say_word(word: &[u8]) {
+pub(crate) fn say_word(word: &[u8]) {
     say(b"\"");
     let mut k = 0;
     let most = shown(word.len());
@@ -57,7 +57,7 @@ pub fn say_word(word: &[u8]) {
 }
 
 // How many words or actions stand before what is told of.
-pub fn say_behind(count: usize, what: &[u8]) {
+pub(crate) fn say_behind(count: usize, what: &[u8]) {
     if count == 0 {
         say(b"at the start");
         return;

@@ -32,7 +32,7 @@ fn say_return(word: &[u8]) -> bool {
 }
 
 // A word of the first line, behind so many actions, is no action.
-pub fn tell_no_action(word: &[u8], behind: usize) {
+pub(crate) fn tell_no_action(word: &[u8], behind: usize) {
     say(b"action list: ");
     say_behind(behind, b"action");
     say(b": ");
@@ -44,7 +44,7 @@ pub fn tell_no_action(word: &[u8], behind: usize) {
 }
 
 // 2: no action, or too many.
-pub fn tell_actions(count: usize) {
+pub(crate) fn tell_actions(count: usize) {
     if count == 0 {
         say(b"the first line lists no action\n");
         say_list();
@@ -56,28 +56,28 @@ pub fn tell_actions(count: usize) {
 }
 
 // 31.
-pub fn tell_long(length: usize) {
+pub(crate) fn tell_long(length: usize) {
     say(b"the rule has ");
     say_number(length);
     say(b" bytes, and 1024 are the most: shorten it, or split it over several places\n");
 }
 
 // 31, of a file that was not read to its end.
-pub fn tell_long_file() {
+pub(crate) fn tell_long_file() {
     say(
         b"the file has over 65535 bytes, and a rule 1024 at the most: shorten it, or split it over several places\n",
     );
 }
 
 // 33.
-pub fn tell_nodes() {
+pub(crate) fn tell_nodes() {
     say(
         b"the rule has over 64 nodes, which are its words but for the first one and the numbers: shorten it, or split it over several places\n",
     );
 }
 
 // A word of the rule and where it stands. The rule begins on line 2.
-pub fn say_place(text: &[u8], words: usize)
+pub(crate) fn say_place(text: &[u8], words: usize)
     requires { ⌜ length (now text) ≤ 65535 ⌝ }
 {
     let span = word_behind(text, words);
@@ -153,7 +153,7 @@ fn tell_misfit(word: &[u8], expected: Category) {
 }
 
 // 32, behind so many words.
-pub fn tell_unreadable(text: &[u8], words: usize, expected: Category)
+pub(crate) fn tell_unreadable(text: &[u8], words: usize, expected: Category)
     requires { ⌜ length (now text) ≤ 65535 ⌝ }
 {
     let span = word_behind(text, words);

@@ -114,7 +114,7 @@ fn behind(file: &[u8], line: usize) -> usize
 }
 
 // Prints the answer to a file.
-pub fn answer(file: &[u8]) {
+pub(crate) fn answer(file: &[u8]) {
     if 65535 < file.len() {
         say_refusal(31, 0);
         tell_long_file();

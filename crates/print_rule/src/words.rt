@@ -92,7 +92,7 @@ pub fn newlines(text: &[u8], to: usize) -> usize
 }
 
 // Whether two words are the same.
-pub fn same(word: &[u8], other: &[u8]) -> bool {
+pub(crate) fn same(word: &[u8], other: &[u8]) -> bool {
     if word.len() != other.len() {
         return false;
     }
@@ -111,7 +111,7 @@ fn is_plain_byte(byte: u8) -> bool {
 }
 
 // Whether a word is of small letters and digits alone.
-pub fn is_plain(word: &[u8]) -> bool {
+pub(crate) fn is_plain(word: &[u8]) -> bool {
     let mut k = 0;
     while k < word.len() {
         if is_plain_byte(word[k]) {

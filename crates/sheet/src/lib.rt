@@ -15,6 +15,7 @@ mod writing;
 
 pub use checks::judge;
 pub use layouts::find_layout;
+pub use writing::write_fields;
 pub use writing::write_front;
 pub use writing::write_node;
 pub use writing::write_sheet;

@@ -41,7 +41,7 @@ fn fields_of(node: Node) -> FiveFields
 }
 
 // Writes five fields at a place.
-fn write_fields(kind: u8, argument: u8, a: u8, b: u8, c: u8, out: &mut [u8], at: usize)
+pub fn write_fields(kind: u8, argument: u8, a: u8, b: u8, c: u8, out: &mut [u8], at: usize)
     requires { ⌜ at + 4 < length (now out) ⌝ }
     ensures { λ _. ⌜ now (out .exit) ≡ sets (now (out .entry)) at (fiveBytes (kind, argument, a, b, c)) ⌝ }
 {

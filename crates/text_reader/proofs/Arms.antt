@@ -6,6 +6,7 @@ use Prim.Native.Nat.{ℕ, _+_, _*_, _≤_, _<_}
 use native.Mathlib.Omega.{arith}
 use lib.ListN.{length}
 use Rattle.syntax.specs.declared.Node.{Node}
+use Rattle.sheet.specs.Writing.{nodeBytes}
 use Rattle.grammar.specs.Words.{Word}
 use Rattle.grammar.specs.Spelling.{tokenOf}
 use Rattle.grammar.specs.Grammar.{Reading, Reads, number}
@@ -17,177 +18,231 @@ use Rattle.grammar.specs.declared.Token.{Token}
 use Rattle.grammar.specs.declared.Token.the-variants.{Number as NumberToken}
 use Rattle.grammar.proofs.Tokens.{Spelled, token-spelled}
 use Rattle.text_words.specs.Next.{wordsFrom, NextWord, word, nothing}
-use Rattle.text_reader.specs.Progress.{nodesIn, rootOf, unread, Sane, Lent, Closes, Gives, TookNumber, GivesNumber, Ended, ends as at-end, goes-on}
-use Rattle.text_reader.specs.Progress.TookNumber.{takes, sticks}
 use Rattle.text_words.specs.declared.Next.{Next}
 use Rattle.text_words.specs.declared.Next.the-variants.{Word as found, Nothing as nothing-left}
+use Rattle.text_reader.specs.Packed.{progressOf}
+use Rattle.text_reader.specs.Progress.{nodesIn, rootOf, unread, stuckAt, Sane, Lent, Here, Exhausted, Takes, Closes, Closable, Gives, TookNumber, GivesNumber, Ended, ends as at-end, goes-on}
+use Rattle.text_reader.specs.Progress.Takes.{word as takes-word, nothing as takes-nothing}
+use Rattle.text_reader.specs.Progress.TookNumber.{takes, sticks}
+use Rattle.text_reader.specs.declared.Taken.{Taken}
+use Rattle.text_reader.specs.declared.Taken.the-variants.{Word as taken, Nothing as nothing-taken}
 use Rattle.text_reader.specs.declared.Progress.{Progress}
 use Rattle.text_reader.specs.declared.Progress.the-variants.{Going, Stuck}
 use Rattle.text_reader.proofs.Parts.{stuck-here, stuck-still, sane-next, less-next, no-part, one-part, two-parts, number-part, three-parts}
 
--- A word stands at the position of a reading that goes on.
-pub record Here (text : List ℕ) (p : Progress) (token : Token) (at words nodes next : ℕ) : Type 0 where
-  pub going : p ≡ Going at words nodes
-  pub sane : Sane text (Going at words nodes)
-  pub this : Word
-  pub is : tokenOf this ≡ token
-  pub far : at < next
-  pub inside : next ≤ length text
-  pub ahead : wordsFrom text at ≡ this ∷ wordsFrom text next
-
+-- Taking a word: what was found.
 pub none-here : {text : List ℕ} {at : ℕ} {n : Next} → NextWord text at n → n ≡ nothing-left → wordsFrom text at ≡ []
 none-here (word w to far inside ahead) q = absurd (let z : _≡_ {A = ℕ} 0 1 = cc in omega arith)
 none-here (nothing none) q = none
 
-module _ {text : List ℕ} {p : Progress} {at words nodes : ℕ} where
-  pub here : Sane text p → p ≡ Going at words nodes → {n : Next} → NextWord text at n → {token : Token} {next : ℕ} → n ≡ found token next
-      → Here text p token at words nodes next
-  here s e (word w to far inside ahead) {token} {next} q =
-      let to-next : to ≡ next = cc in
-      record {
-        going = e;
-        sane = subst (Sane text) e s;
-        this = w;
-        is = cc;
-        far = rw to-next at far;
-        inside = rw to-next at inside;
-        ahead = rw to-next at ahead;
-      }
-  here s e (nothing none) q = absurd (let z : _≡_ {A = ℕ} 0 1 = cc in omega arith)
+pub here : {text : List ℕ} {p : Progress} {at words nodes : ℕ} → Sane text p → p ≡ Going at words nodes → {n : Next} → NextWord text at n → {token : Token} {next : ℕ}
+    → n ≡ found token next → {behind : Progress} → behind ≡ Going next (words + 1) nodes → Here text p token behind
+here {text} {p} {at} {words} {nodes} s e (word w to far inside ahead) {token} {next} q {behind} b =
+    let to-next : to ≡ next = cc in
+    record {
+      at = at;
+      words = words;
+      nodes = nodes;
+      next = next;
+      going = e;
+      goes-on = b;
+      sane = subst (Sane text) e s;
+      this = w;
+      is = cc;
+      far = rw to-next at far;
+      inside = rw to-next at inside;
+      ahead = rw to-next at ahead;
+    }
+here s e (nothing none) q b = absurd (let z : _≡_ {A = ℕ} 0 1 = cc in omega arith)
 
-  -- No word is left.
-  pub ends-here : {c : Category} {before : List ℕ} {r : Progress} → Open c → Sane text p → p ≡ Going at words nodes → wordsFrom text at ≡ [] → r ≡ Stuck words c
-      → Gives c text p before r before
-  ends-here {c} {before} {r} o s e none q =
+-- the counts are small
+pub few-words : {text : List ℕ} {p : Progress} {at words nodes : ℕ} → Sane text p → p ≡ Going at words nodes → (words ≤ 1024) × (nodes ≤ 1024)
+few-words {text} {p} {at} {words} {nodes} s e =
+    let t : Sane text (Going at words nodes) = subst (Sane text) e s in
+    (omega (arith, t .short, t .inside, t .few-words), omega (arith, t .short, t .inside, t .few-words, t .few-nodes))
+
+pub few-bytes : {text : List ℕ} {p : Progress} {at next : ℕ} {n : Next} {token : Token} → Sane text p → NextWord text at n → n ≡ found token next → next ≤ 1024
+few-bytes {next = next} s (word w to far inside ahead) q = let to-next : to ≡ next = cc in omega (arith, s .short)
+few-bytes s (nothing none) q = absurd (let z : _≡_ {A = ℕ} 0 1 = cc in omega arith)
+
+pub exhausted : (text : List ℕ) {p : Progress} {at words nodes : ℕ} → p ≡ Going at words nodes → wordsFrom text at ≡ [] → Exhausted text p
+exhausted text e none = subst (Exhausted text) (sym e) none
+
+pub exhausted-stuck : (text : List ℕ) {p : Progress} {m : ℕ} {d : Category} → p ≡ Stuck m d → Exhausted text p
+exhausted-stuck text e = subst (Exhausted text) (sym e) tt
+
+-- What a word that was taken says, and that none was.
+pub word-taken : {text : List ℕ} {p : Progress} {t : Taken} {token : Token} {behind : ℕ} → Takes text p t → t ≡ taken token behind
+    → Here text p token (progressOf behind)
+word-taken {text} {p} {token = token} {behind = behind} (takes-word {token = token′} {behind = behind′} h) q =
+    let same-token : token′ ≡ token = cc in
+    let same-behind : behind′ ≡ behind = cc in
+    subst (λ (n : ℕ). Here text p token (progressOf n)) same-behind (subst (λ (t : Token). Here text p t (progressOf behind′)) same-token h)
+word-taken (takes-nothing x) q = absurd (let z : _≡_ {A = ℕ} 0 1 = cc in omega arith)
+
+pub none-taken : {text : List ℕ} {p : Progress} {t : Taken} → Takes text p t → t ≡ nothing-taken → Exhausted text p
+none-taken (takes-word h) q = absurd (let z : _≡_ {A = ℕ} 0 1 = cc in omega arith)
+none-taken (takes-nothing x) q = x
+
+-- No word is left, or reading is stuck already.
+module _ {text : List ℕ} {c : Category} where
+  pub over-here : (p : Progress) {before : List ℕ} {r : Progress} → Open c → Sane text p → Exhausted text p → r ≡ stuckAt p c → Gives c text p before r before
+  over-here (Going at words nodes) {before} o s none q =
       let h : Sticks (c ∷ []) (wordsFrom text at) 0 c = rw none (ends o) in
-      subst (λ (r : Progress). Gives c text p before r before) (sym q)
-      (subst (λ (q : Progress). Gives c text q before (Stuck words c) before) (sym e) (stuck-here text (subst (Sane text) e s) h (omega arith) refl))
+      subst (λ (r : Progress). Gives c text (Going at words nodes) before r before) (sym q) (stuck-here text s h (omega arith) refl)
+  over-here (Stuck m d) {before} o s none q = subst (λ (r : Progress). Gives c text (Stuck m d) before r before) (sym q) (stuck-still text (s .short) refl)
 
--- The counts are small.
-pub few-words : {text : List ℕ} {p : Progress} {at words nodes : ℕ} → Sane text p → p ≡ Going at words nodes → words ≤ 1024
-few-words {text} {p} {at} {words} {nodes} s e = let t : Sane text (Going at words nodes) = subst (Sane text) e s in omega (arith, t .short, t .inside, t .few-words)
+stuck-sane : {text : List ℕ} {p : Progress} {m : ℕ} {d : Category} → Sane text p → Sane text (Stuck m d)
+stuck-sane s = record { short = s .short; inside = omega arith; few-words = omega arith; few-nodes = omega arith }
 
--- Reading is stuck already.
-pub still-stuck : {c d : Category} {text before : List ℕ} {p : Progress} {m : ℕ} → Sane text p → p ≡ Stuck m d → Gives c text p before p before
-still-stuck {c} {d} {text} {before} {p} s e = subst (λ (q : Progress). Gives c text q before q before) (sym e) (stuck-still text (s .short) refl)
+pub number-over : {text : List ℕ} (p : Progress) {k : ℕ} {r : Progress} → Sane text p → Exhausted text p → r ≡ stuckAt p Number → GivesNumber text p r k
+number-over {text} (Going at words nodes) {k} s none q =
+    let t : Sticks (Number ∷ []) (wordsFrom text at) 0 Number = rw none (ends tt) in
+    subst (λ (r : Progress). GivesNumber text (Going at words nodes) r k) (sym q)
+    (record { took = sticks t (omega arith); sane = stuck-sane s; onward = omega arith })
+number-over {text} (Stuck m d) {k} s none q =
+    subst (λ (r : Progress). GivesNumber text (Stuck m d) r k) (sym q) (record { took = refl; sane = stuck-sane s; onward = omega arith })
 
-module _ {text : List ℕ} {p : Progress} {token : Token} {at words nodes next : ℕ} (h : Here text p token at words nodes next) where
+-- A word stands at the position.
+module _ {text : List ℕ} {p : Progress} {token : Token} {behind : Progress} (h : Here text p token behind) where
   -- the word is spelled as its token
   pub spelled : {t : Token} → token ≡ t → Spelled t (h .this)
   spelled e = subst (λ (t : Token). Spelled t (h .this)) (h .is ∙ e) (token-spelled (h .this))
 
-  pub few-bytes : next ≤ 1024
-  few-bytes = omega (arith, h .inside, h .sane .short)
+  pub sane-behind : Sane text behind
+  sane-behind = subst (Sane text) (sym (h .goes-on)) (sane-next text (h .sane) (h .far) (h .inside) (h .ahead))
 
-  pub sane-behind : Sane text (Going next (words + 1) nodes)
-  sane-behind = sane-next text (h .sane) (h .far) (h .inside) (h .ahead)
+  less-behind : unread text behind < unread text p
+  less-behind =
+      subst (λ (q : Progress). unread text q < unread text p) (sym (h .goes-on))
+      (subst (λ (q : Progress). unread text (Going (h .next) (h .words + 1) (h .nodes)) < unread text q) (sym (h .going))
+      (less-next text (h .sane) (h .far) (h .inside) (h .ahead)))
 
-  pub less-behind : unread text (Going next (words + 1) nodes) < unread text p
-  less-behind = subst (λ (q : Progress). unread text (Going next (words + 1) nodes) < unread text q) (sym (h .going)) (less-next text (h .sane) (h .far) (h .inside) (h .ahead))
+  ahead-as : {v : Word} → h .this ≡ v → wordsFrom text (h .at) ≡ v ∷ wordsFrom text (h .next)
+  ahead-as e = h .ahead ∙ ap (λ (v : Word). v ∷ wordsFrom text (h .next)) e
 
-  ahead-as : {v : Word} → h .this ≡ v → wordsFrom text at ≡ v ∷ wordsFrom text next
-  ahead-as e = h .ahead ∙ ap (λ (v : Word). v ∷ wordsFrom text next) e
+  -- where reading is stuck before the word
+  stuck-before : {c : Category} {r : Progress} → r ≡ stuckAt p c → r ≡ Stuck (h .words) c
+  stuck-before {c} q = q ∙ ap (λ (p : Progress). stuckAt p c) (h .going)
 
-  module _ {c : Category} {before : List ℕ} {r : Progress} {behind : List ℕ} where
-    as-going : Gives c text (Going at words nodes) before r behind → Gives c text p before r behind
-    as-going g = subst (λ (q : Progress). Gives c text q before r behind) (sym (h .going)) g
+  -- what is read behind the word
+  first-part : {c : Category} {before : List ℕ} {a : Progress} {middle : List ℕ} → Gives c text behind before a middle
+      → Gives c text (Going (h .next) (h .words + 1) (h .nodes)) before a middle
+  first-part {c} {before} {a} {middle} g = subst (λ (q : Progress). Gives c text q before a middle) (h .goes-on) g
 
-    pub leaf : {v : Word} {x : Reading c} (node : Node) → h .this ≡ v → Reads c (v ∷ []) x → nodesOf c nodes x ≡ node ∷ []
-        → Closes node before behind (Going next (words + 1) nodes) r → Gives c text p before r behind
-    leaf node e d l q = as-going (no-part text (h .sane) (h .far) (h .inside) (ahead-as e) d l q)
+  number-behind : {a : Progress} {k : ℕ} → GivesNumber text behind a k → GivesNumber text (Going (h .next) (h .words + 1) (h .nodes)) a k
+  number-behind {a} {k} g = subst (λ (q : Progress). GivesNumber text q a k) (h .goes-on) g
 
-    pub over-one : {c′ : Category} {v : Word} (make : Reading c′ → Reading c) (whole : ℕ → Node) {middle : List ℕ} {a : Progress} {i : ℕ} → h .this ≡ v
-        → Fits c v (c′ ∷ []) → ((us : List Word) (x : Reading c′) → Reads c′ us x → Reads c (v ∷ us) (make x))
-        → ((x : Reading c′) → nodesOf c nodes (make x) ≡ overOne nodes (nodesOf c′ nodes x) whole) → ((n : ℕ) (x : Reading c′) → 1 ≤ length (nodesOf c′ n x))
-        → Gives c′ text (Going next (words + 1) nodes) before a middle → i ≡ rootOf a → Closes (whole i) middle behind a r → Gives c text p before r behind
-    over-one make whole {middle} {a} {i} e f build listed some g ei q =
+  module _ {c : Category} {before : List ℕ} {r : Progress} {after : List ℕ} where
+    as-going : Gives c text (Going (h .at) (h .words) (h .nodes)) before r after → Gives c text p before r after
+    as-going g = subst (λ (q : Progress). Gives c text q before r after) (sym (h .going)) g
+
+    pub leaf : {v : Word} {x : Reading c} (node : Node) → h .this ≡ v → Reads c (v ∷ []) x → nodesOf c (h .nodes) x ≡ node ∷ []
+        → Closes (nodeBytes node) before after behind r → Gives c text p before r after
+    leaf node e d l q =
         as-going
-        (one-part text (h .sane) (h .far) (h .inside) (ahead-as e) make whole f build listed some g
-        (subst (λ (j : ℕ). Closes (whole j) middle behind a r) ei q))
+        (no-part text (h .sane) (h .far) (h .inside) (ahead-as e) {node = node} d l
+        (subst (λ (q : Progress). Closes (nodeBytes node) before after q r) (h .goes-on) q))
+
+    pub over-one : {c′ : Category} {v : Word} (make : Reading c′ → Reading c) (whole : ℕ → Node) {middle : List ℕ} {a : Progress} → h .this ≡ v
+        → Fits c v (c′ ∷ []) → ((us : List Word) (x : Reading c′) → Reads c′ us x → Reads c (v ∷ us) (make x))
+        → ((x : Reading c′) → nodesOf c (h .nodes) (make x) ≡ overOne (h .nodes) (nodesOf c′ (h .nodes) x) whole)
+        → ((n : ℕ) (x : Reading c′) → 1 ≤ length (nodesOf c′ n x))
+        → Gives c′ text behind before a middle → Closes (nodeBytes (whole (rootOf a))) middle after a r → Gives c text p before r after
+    over-one make whole e f build listed some g q =
+        as-going (one-part text (h .sane) (h .far) (h .inside) (ahead-as e) make whole f build listed some (first-part g) q)
 
     pub over-two : {c₁ c₂ : Category} {v : Word} (make : Reading c₁ → Reading c₂ → Reading c) (whole : ℕ → ℕ → Node) {m₁ m₂ : List ℕ} {a b : Progress}
-        {i j : ℕ} → h .this ≡ v → Fits c v (c₁ ∷ c₂ ∷ [])
+        → h .this ≡ v → Fits c v (c₁ ∷ c₂ ∷ [])
         → ((us : List Word) (x : Reading c₁) (vs : List Word) (y : Reading c₂) → Reads c₁ us x → Reads c₂ vs y → Reads c (v ∷ (us ++ vs)) (make x y))
-        → ((x : Reading c₁) (y : Reading c₂) → nodesOf c nodes (make x y) ≡ overTwo nodes (nodesOf c₁ nodes x) (nodesOf c₂ (nodes + length (nodesOf c₁ nodes x)) y) whole)
+        → ((x : Reading c₁) (y : Reading c₂) → nodesOf c (h .nodes) (make x y)
+        ≡ overTwo (h .nodes) (nodesOf c₁ (h .nodes) x) (nodesOf c₂ (h .nodes + length (nodesOf c₁ (h .nodes) x)) y) whole)
         → ((n : ℕ) (x : Reading c₁) → 1 ≤ length (nodesOf c₁ n x)) → ((n : ℕ) (y : Reading c₂) → 1 ≤ length (nodesOf c₂ n y))
-        → Gives c₁ text (Going next (words + 1) nodes) before a m₁ → Gives c₂ text a m₁ b m₂ → i ≡ rootOf a → j ≡ rootOf b
-        → Closes (whole i j) m₂ behind b r → Gives c text p before r behind
-    over-two make whole {m₁} {m₂} {a} {b} {i} {j} e f build listed some₁ some₂ g₁ g₂ ei ej q =
+        → Gives c₁ text behind before a m₁ → Gives c₂ text a m₁ b m₂ → Closes (nodeBytes (whole (rootOf a) (rootOf b))) m₂ after b r
+        → Gives c text p before r after
+    over-two make whole e f build listed some₁ some₂ g₁ g₂ q =
+        as-going (two-parts text (h .sane) (h .far) (h .inside) (ahead-as e) make whole f build listed some₁ some₂ (first-part g₁) g₂ q)
+
+    pub over-number : {v : Word} (make : ℕ → Reading c) (whole : ℕ → Node) {k : ℕ} {a : Progress} → h .this ≡ v → Fits c v (Number ∷ [])
+        → ((us : List Word) (j : ℕ) → Reads Number us j → Reads c (v ∷ us) (make j)) → ((j : ℕ) → nodesOf c (h .nodes) (make j) ≡ whole j ∷ [])
+        → GivesNumber text behind a k → Closes (nodeBytes (whole k)) before after a r → Gives c text p before r after
+    over-number make whole e f build listed g q =
+        as-going (number-part text (h .sane) (h .far) (h .inside) (ahead-as e) make whole f build listed (number-behind g) q)
+
+    pub over-three : {c₁ c₂ c₃ : Category} {v : Word} (make : ℕ → Reading c₁ → Reading c₂ → Reading c₃ → Reading c) (whole : ℕ → ℕ → ℕ → ℕ → Node)
+        {m₁ m₂ m₃ : List ℕ} {k : ℕ} {s a b e : Progress} → h .this ≡ v → Fits c v (Number ∷ c₁ ∷ c₂ ∷ c₃ ∷ [])
+        → ((ts : List Word) (j : ℕ) (us : List Word) (x : Reading c₁) (vs : List Word) (y : Reading c₂) (ws : List Word) (z : Reading c₃)
+        → Reads Number ts j → Reads c₁ us x → Reads c₂ vs y → Reads c₃ ws z → Reads c (v ∷ (ts ++ (us ++ (vs ++ ws)))) (make j x y z))
+        → ((j : ℕ) (x : Reading c₁) (y : Reading c₂) (z : Reading c₃) → nodesOf c (h .nodes) (make j x y z)
+        ≡ overThree (h .nodes) (nodesOf c₁ (h .nodes) x) (nodesOf c₂ (h .nodes + length (nodesOf c₁ (h .nodes) x)) y)
+        (nodesOf c₃ (h .nodes + length (nodesOf c₁ (h .nodes) x) + length (nodesOf c₂ (h .nodes + length (nodesOf c₁ (h .nodes) x)) y)) z) (whole j))
+        → ((n : ℕ) (x : Reading c₁) → 1 ≤ length (nodesOf c₁ n x)) → ((n : ℕ) (y : Reading c₂) → 1 ≤ length (nodesOf c₂ n y))
+        → ((n : ℕ) (z : Reading c₃) → 1 ≤ length (nodesOf c₃ n z))
+        → GivesNumber text behind s k → Gives c₁ text s before a m₁ → Gives c₂ text a m₁ b m₂ → Gives c₃ text b m₂ e m₃
+        → Closes (nodeBytes (whole k (rootOf a) (rootOf b) (rootOf e))) m₃ after e r → Gives c text p before r after
+    over-three make whole spells f build listed some₁ some₂ some₃ g₀ g₁ g₂ g₃ q =
         as-going
-        (two-parts text (h .sane) (h .far) (h .inside) (ahead-as e) make whole f build listed some₁ some₂ g₁ g₂
-        (subst (λ (n : ℕ). Closes (whole (rootOf a) n) m₂ behind b r) ej (subst (λ (n : ℕ). Closes (whole n j) m₂ behind b r) ei q)))
+        (three-parts text (h .sane) (h .far) (h .inside) (ahead-as spells) make whole f build listed some₁ some₂ some₃ (number-behind g₀) g₁ g₂ g₃ q)
 
     -- The word does not fit.
-    pub misfits-here : Misfit c (h .this) → length behind ≡ length before → r ≡ Stuck words c → Gives c text p before r behind
-    misfits-here f l e =
-        let k : Sticks (c ∷ []) (wordsFrom text at) 0 c = rw (h .ahead) (misfits f) in
-        as-going (subst (λ (q : Progress). Gives c text (Going at words nodes) before q behind) (sym e) (stuck-here text (h .sane) k (omega arith) l))
+    pub misfits-here : Misfit c (h .this) → length after ≡ length before → r ≡ stuckAt p c → Gives c text p before r after
+    misfits-here f l q =
+        let k : Sticks (c ∷ []) (wordsFrom text (h .at)) 0 c = rw (h .ahead) (misfits f) in
+        as-going
+        (subst (λ (q : Progress). Gives c text (Going (h .at) (h .words) (h .nodes)) before q after) (sym (stuck-before q))
+        (stuck-here text (h .sane) k (omega arith) l))
 
--- What is lent behind the word, and behind a part: less is unread.
-module _ {text : List ℕ} {p : Progress} {token : Token} {at words nodes next : ℕ} (h : Here text p token at words nodes next) where
-  pub lent-behind : {room : List ℕ} → Lent text p room → Lent text (Going next (words + 1) nodes) room
-  lent-behind l = record { sane = sane-behind h; sixty-four = l .sixty-four }
+  -- A number, which has no node.
+  as-number : {k : ℕ} {r : Progress} → TookNumber text (h .at) (h .words) (h .nodes) r k → Sane text r
+      → unread text r ≤ unread text (Going (h .at) (h .words) (h .nodes)) → GivesNumber text p r k
+  as-number {k} {r} t s u = subst (λ (q : Progress). GivesNumber text q r k) (sym (h .going)) (record { took = t; sane = s; onward = u })
 
-  pub less-first : {t : ℕ} → unread text p ≡ t → unread text (Going next (words + 1) nodes) < t
-  less-first e = rw e at (less-behind h)
+  pub number-here : {k : ℕ} → token ≡ NumberToken k → GivesNumber text p behind k
+  number-here {k} e =
+      let w = spelled e in
+      subst (λ (q : Progress). GivesNumber text p q k) (sym (h .goes-on))
+      (as-number
+      (takes {ws = h .this ∷ []}
+      (record { reads = rw (w .2) (number (w .0) (w .1)); split = h .ahead; far = omega (arith, h .far); within = h .inside })
+      refl)
+      (subst (Sane text) (h .goes-on) sane-behind)
+      (omega (arith, h .far)))
 
+  pub number-stuck : {k : ℕ} {r : Progress} → Misfit Number (h .this) → r ≡ stuckAt p Number → GivesNumber text p r k
+  number-stuck {k} {r} f q =
+      let t : Sticks (Number ∷ []) (wordsFrom text (h .at)) 0 Number = rw (h .ahead) (misfits f) in
+      subst (λ (r : Progress). GivesNumber text p r k) (sym (stuck-before q)) (as-number (sticks t (omega arith)) (stuck-sane (h .sane)) (omega arith))
+
+  -- Something stands behind a whole text.
+  pub ended-not : {r : Progress} → r ≡ stuckAt p End → Ended text p r
+  ended-not {r} q =
+      subst (λ (r : Progress). Ended text p r) (sym (stuck-before q))
+      (subst (λ (q : Progress). Ended text q (Stuck (h .words) End)) (sym (h .going)) (goes-on (h .this) (h .next) (h .ahead)))
+
+-- A word that was taken, what is lent behind it, and that less is unread there.
+pub record Behind (text : List ℕ) (p : Progress) (room : List ℕ) (t : ℕ) (token : Token) (parts : Progress) : Type 0 where
+  pub here : Here text p token parts
+  pub lent : Lent text parts room
+  pub less : unread text parts < t
+
+pub behind-word : {text : List ℕ} {p : Progress} {room : List ℕ} {t : ℕ} {found : Taken} {token : Token} {parts : ℕ} → Takes text p found → found ≡ taken token parts
+    → Lent text p room → unread text p ≡ t → Behind text p room t token (progressOf parts)
+behind-word w e l u =
+    let h = word-taken w e in
+    record { here = h; lent = record { sane = sane-behind h; sixty-four = l .sixty-four }; less = rw u at (less-behind h) }
+
+-- A text ends, or reading was stuck.
+pub ended-over : (text : List ℕ) (p : Progress) → Exhausted text p → Ended text p p
+ended-over text (Going at words nodes) none = at-end none
+ended-over text (Stuck m d) none = refl
+
+-- What is lent behind a part: less is unread.
 module _ {c : Category} {text : List ℕ} {q a : Progress} {before behind : List ℕ} (g : Gives c text q before a behind) where
   pub lent-then : Lent text q before → Lent text a behind
   lent-then l = record { sane = g .sane; sixty-four = g .sized ∙ l .sixty-four }
 
   pub less-then : {t : ℕ} → unread text q < t → unread text a < t
   less-then h = omega (arith, g .onward)
-
-pub closable : {text : List ℕ} {p : Progress} {room : List ℕ} → Lent text p room → (nodesIn p ≤ 1024) × (length room ≡ 320)
-closable l = (omega (arith, l .sane .short, l .sane .inside, l .sane .few-words, l .sane .few-nodes), l .sixty-four)
-
--- A number: it has no node.
-as-number : {text : List ℕ} {p : Progress} {at words nodes k : ℕ} {r : Progress} → p ≡ Going at words nodes → TookNumber text at words nodes r k → Sane text r
-    → unread text r ≤ unread text (Going at words nodes) → GivesNumber text p r k
-as-number {text} {p} {at} {words} {nodes} {k} {r} e t s u =
-    subst (λ (q : Progress). GivesNumber text q r k) (sym e) (record { took = t; sane = s; onward = u })
-
-stuck-sane : {text : List ℕ} {p : Progress} {m : ℕ} {d : Category} → Sane text p → Sane text (Stuck m d)
-stuck-sane s = record { short = s .short; inside = omega arith; few-words = omega arith; few-nodes = omega arith }
-
-pub number-here : {text : List ℕ} {p : Progress} {token : Token} {at words nodes next k : ℕ} → Here text p token at words nodes next → token ≡ NumberToken k
-    → GivesNumber text p (Going next (words + 1) nodes) k
-number-here {text} {next = next} {k = k} h e =
-    let w = spelled h e in
-    as-number (h .going)
-    (takes {ws = h .this ∷ []}
-    (record { reads = rw (w .2) (number (w .0) (w .1)); split = h .ahead; far = omega (arith, h .far); within = h .inside })
-    refl)
-    (sane-behind h)
-    (omega (arith, h .far))
-
-pub number-stuck : {text : List ℕ} {p : Progress} {token : Token} {at words nodes next k : ℕ} {r : Progress} (h : Here text p token at words nodes next)
-    → Misfit Number (h .this) → r ≡ Stuck words Number → GivesNumber text p r k
-number-stuck {text} {p} {at = at} {k = k} {r = r} h f e =
-    let t : Sticks (Number ∷ []) (wordsFrom text at) 0 Number = rw (h .ahead) (misfits f) in
-    subst (λ (r : Progress). GivesNumber text p r k) (sym e) (as-number (h .going) (sticks t (omega arith)) (stuck-sane (h .sane)) (omega arith))
-
-pub number-ends : {text : List ℕ} {p : Progress} {at words nodes k : ℕ} {r : Progress} → Sane text p → p ≡ Going at words nodes → wordsFrom text at ≡ []
-    → r ≡ Stuck words Number → GivesNumber text p r k
-number-ends {text} {p} {at} {k = k} s g none e =
-    let t : Sticks (Number ∷ []) (wordsFrom text at) 0 Number = rw none (ends tt) in
-    subst (λ (r : Progress). GivesNumber text p r k) (sym e) (as-number g (sticks t (omega arith)) (stuck-sane s) (omega arith))
-
-pub number-still : {text : List ℕ} {p : Progress} {m k : ℕ} {d : Category} → Sane text p → p ≡ Stuck m d → GivesNumber text p p k
-number-still {text} {p} {k = k} s e = subst (λ (q : Progress). GivesNumber text q q k) (sym e) (record { took = refl; sane = stuck-sane s; onward = omega arith })
-
--- The end of a text.
-module _ (text : List ℕ) {p : Progress} where
-  pub ended-still : {m : ℕ} {d : Category} → p ≡ Stuck m d → Ended text p p
-  ended-still e = subst (λ (q : Progress). Ended text q q) (sym e) refl
-
-  pub ended-here : {at words nodes : ℕ} → p ≡ Going at words nodes → wordsFrom text at ≡ [] → Ended text p (Going at words nodes)
-  ended-here {at} {words} {nodes} e none = subst (λ (q : Progress). Ended text q (Going at words nodes)) (sym e) (at-end none)
-
-  pub ended-not : {token : Token} {at words nodes next : ℕ} {r : Progress} → Here text p token at words nodes next → r ≡ Stuck words End → Ended text p r
-  ended-not {words = words} {next = next} {r = r} h e =
-      subst (λ (r : Progress). Ended text p r) (sym e)
-      (subst (λ (q : Progress). Ended text q (Stuck words End)) (sym (h .going)) (goes-on (h .this) next (h .ahead)))
 
 -- A number behind the word.
 module _ {text : List ℕ} {q a : Progress} {k : ℕ} (g : GivesNumber text q a k) where
@@ -197,27 +252,6 @@ module _ {text : List ℕ} {q a : Progress} {k : ℕ} (g : GivesNumber text q a 
   pub less-number : {t : ℕ} → unread text q < t → unread text a < t
   less-number h = omega (arith, g .onward)
 
-module _ {text : List ℕ} {p : Progress} {token : Token} {at words nodes next : ℕ} (h : Here text p token at words nodes next) {c : Category} {before : List ℕ}
-    {r : Progress} {behind : List ℕ} where
-  pub over-number : {v : Word} (make : ℕ → Reading c) (whole : ℕ → Node) {k : ℕ} {a : Progress} → h .this ≡ v → Fits c v (Number ∷ [])
-      → ((us : List Word) (j : ℕ) → Reads Number us j → Reads c (v ∷ us) (make j)) → ((j : ℕ) → nodesOf c nodes (make j) ≡ whole j ∷ [])
-      → GivesNumber text (Going next (words + 1) nodes) a k → Closes (whole k) before behind a r → Gives c text p before r behind
-  over-number make whole e f build listed g q = as-going h (number-part text (h .sane) (h .far) (h .inside) (ahead-as h e) make whole f build listed g q)
-
-  pub over-three : {c₁ c₂ c₃ : Category} {v : Word} (make : ℕ → Reading c₁ → Reading c₂ → Reading c₃ → Reading c) (whole : ℕ → ℕ → ℕ → ℕ → Node)
-      {m₁ m₂ m₃ : List ℕ} {k : ℕ} {s a b e : Progress} {i j l : ℕ} → h .this ≡ v → Fits c v (Number ∷ c₁ ∷ c₂ ∷ c₃ ∷ [])
-      → ((ts : List Word) (j : ℕ) (us : List Word) (x : Reading c₁) (vs : List Word) (y : Reading c₂) (ws : List Word) (z : Reading c₃)
-      → Reads Number ts j → Reads c₁ us x → Reads c₂ vs y → Reads c₃ ws z → Reads c (v ∷ (ts ++ (us ++ (vs ++ ws)))) (make j x y z))
-      → ((j : ℕ) (x : Reading c₁) (y : Reading c₂) (z : Reading c₃) → nodesOf c nodes (make j x y z)
-      ≡ overThree nodes (nodesOf c₁ nodes x) (nodesOf c₂ (nodes + length (nodesOf c₁ nodes x)) y)
-      (nodesOf c₃ (nodes + length (nodesOf c₁ nodes x) + length (nodesOf c₂ (nodes + length (nodesOf c₁ nodes x)) y)) z) (whole j))
-      → ((n : ℕ) (x : Reading c₁) → 1 ≤ length (nodesOf c₁ n x)) → ((n : ℕ) (y : Reading c₂) → 1 ≤ length (nodesOf c₂ n y))
-      → ((n : ℕ) (z : Reading c₃) → 1 ≤ length (nodesOf c₃ n z))
-      → GivesNumber text (Going next (words + 1) nodes) s k → Gives c₁ text s before a m₁ → Gives c₂ text a m₁ b m₂ → Gives c₃ text b m₂ e m₃
-      → i ≡ rootOf a → j ≡ rootOf b → l ≡ rootOf e → Closes (whole k i j l) m₃ behind e r → Gives c text p before r behind
-  over-three make whole {m₃ = m₃} {k = k} {a = a} {b = b} {e = e} {i} {j} {l} spells f build listed some₁ some₂ some₃ g₀ g₁ g₂ g₃ ei ej el q =
-      as-going h
-      (three-parts text (h .sane) (h .far) (h .inside) (ahead-as h spells) make whole f build listed some₁ some₂ some₃ g₀ g₁ g₂ g₃
-      (subst (λ (n : ℕ). Closes (whole k (rootOf a) (rootOf b) n) m₃ behind e r) el
-      (subst (λ (n : ℕ). Closes (whole k (rootOf a) n l) m₃ behind e r) ej
-      (subst (λ (n : ℕ). Closes (whole k n j l) m₃ behind e r) ei q))))
+pub closable : {text : List ℕ} {p : Progress} {room : List ℕ} → Lent text p room → Closable p room
+closable l =
+    record { few-nodes = omega (arith, l .sane .short, l .sane .inside, l .sane .few-words, l .sane .few-nodes); sixty-four = l .sixty-four }

@@ -1,5 +1,6 @@
 pub mod Arms
 pub mod Misfits
+pub mod Packing
 pub mod Parts
 pub mod SheetWritten
 pub mod TextAnswers

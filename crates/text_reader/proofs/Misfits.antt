@@ -13,8 +13,8 @@ use Rattle.grammar.specs.declared.Category.{Category}
 use Rattle.grammar.specs.declared.Category.the-variants.{Text, Watched, Enforced, Formula, Number, End}
 use Rattle.grammar.proofs.Fitting.{byCategory, partsOf, misfit}
 use Rattle.grammar.proofs.Token as token
+use Rattle.text_reader.specs.Progress.{Here}
 use Rattle.text_reader.specs.declared.Progress.{Progress}
-use Rattle.text_reader.proofs.Arms.{Here}
 
 -- The numbers of the tokens that are left over, in the order of their declaration.
 abbrev pub leftOver : Category → List ℕ
@@ -65,6 +65,6 @@ left (Proposition p) = row 16 none-left none-left none-left (λ o. absurd (miss 
 left (NumberToken k) = row 17 none-left none-left none-left none-left (λ o. absurd (miss (leftOver Number) 17 tt o))
 left Other = row 18 none-left none-left none-left none-left none-left
 
-pub left-over : {text : List ℕ} {p : Progress} {t : Token} {at words nodes next : ℕ} (h : Here text p t at words nodes next) (c : Category)
+pub left-over : {text : List ℕ} {p : Progress} {t : Token} {behind : Progress} (h : Here text p t behind) (c : Category)
     → OneOf (leftOver c) (tagOf token.the-type t) → Misfit c (h .this)
 left-over {t = t} h c o = misfit c (h .this) (subst (λ (t : Token). partsOf t c ≡ none) (sym (h .is)) (left t c o))

@@ -6,6 +6,7 @@ use Prim.Native.Nat.{ℕ, suc, _+_, _*_, _-_, _%_, _≤_, _<_}
 use native.Mathlib.Omega.{arith}
 use lib.ListN.{length, length-append}
 use Rattle.syntax.specs.declared.Node.{Node}
+use Rattle.sheet.specs.Writing.{nodeBytes}
 use Rattle.grammar.specs.Words.{Word}
 use Rattle.grammar.specs.Spelling.{numberWord}
 use Rattle.grammar.specs.Grammar.{Reading, Reads}
@@ -20,7 +21,7 @@ use Rattle.text_reader.specs.Progress.Took.{takes, sticks}
 use Rattle.text_reader.specs.Progress.{rootOf, unread, Sane, Lent, Wrote, Closes, ReadTo, Took, TookBy, Gives, TookNumber, GivesNumber}
 use Rattle.text_reader.specs.declared.Progress.{Progress}
 use Rattle.text_reader.specs.declared.Progress.the-variants.{Going, Stuck}
-use Rattle.text_reader.proofs.Writing.{wrote-then, wrote-as, root-is}
+use Rattle.text_reader.proofs.Writing.{wrote-then, wrote-as, wrote-one, root-is}
 use Rattle.grammar.proofs.Sizes.{length-one, length-two, length-three}
 
 -- The last node before a position has its number in a byte.
@@ -28,9 +29,9 @@ root-at : (n : ℕ) {k : ℕ} → 1 ≤ n → n ≡ k → k ≤ 64 → (n % 256 
 root-at n {k} h e g = root-is n h (omega arith) ∙ ap (λ (j : ℕ). j - 1) e
 
 -- A node closes nothing where reading is stuck.
-closes-stuck : (node : Node) (before behind : List ℕ) {p r : Progress} {m : ℕ} {d : Category} → p ≡ Stuck m d → Closes node before behind p r
+closes-stuck : (bytes before behind : List ℕ) {p r : Progress} {m : ℕ} {d : Category} → p ≡ Stuck m d → Closes bytes before behind p r
     → (r ≡ Stuck m d) × (length behind ≡ length before)
-closes-stuck node before behind {p} {r} e q = subst (λ (p : Progress). Closes node before behind p r) e q
+closes-stuck bytes before behind {p} {r} e q = subst (λ (p : Progress). Closes bytes before behind p r) e q
 
 module _ (text : List ℕ) where
   -- Reading is stuck where it is.
@@ -89,21 +90,21 @@ module _ (text : List ℕ) where
 
       -- no part
       pub no-part : {x : Reading c} {node : Node} → Reads c (w ∷ []) x → nodesOf c nodes x ≡ node ∷ []
-          → Closes node before behind (Going next (words + 1) nodes) r → Gives c text (Going at words nodes) before r behind
+          → Closes (nodeBytes node) before behind (Going next (words + 1) nodes) r → Gives c text (Going at words nodes) before r behind
       no-part {x} {node} d l q =
           as-closed (q .0)
-          (given d refl (omega arith) inside (omega arith) (rw l (omega arith)) (rw l (omega arith)) (rw l (q .1)))
+          (given d refl (omega arith) inside (omega arith) (rw l (omega arith)) (rw l (omega arith)) (rw l (wrote-one node (q .1))))
 
       -- one part
       pub one-part : {c′ : Category} (make : Reading c′ → Reading c) (whole : ℕ → Node) {middle : List ℕ} {a : Progress} → Fits c w (c′ ∷ [])
           → ((us : List Word) (x : Reading c′) → Reads c′ us x → Reads c (w ∷ us) (make x))
           → ((x : Reading c′) → nodesOf c nodes (make x) ≡ overOne nodes (nodesOf c′ nodes x) whole)
           → ((n : ℕ) (x : Reading c′) → 1 ≤ length (nodesOf c′ n x))
-          → Gives c′ text (Going next (words + 1) nodes) before a middle → Closes (whole (rootOf a)) middle behind a r
+          → Gives c′ text (Going next (words + 1) nodes) before a middle → Closes (nodeBytes (whole (rootOf a))) middle behind a r
           → Gives c text (Going at words nodes) before r behind
       one-part {c′} make whole {middle} {a} f build listed some g q = by a (g .took) q
         where
-          by : (a : Progress) → Took c′ text before middle next (words + 1) nodes a → Closes (whole (rootOf a)) middle behind a r
+          by : (a : Progress) → Took c′ text before middle next (words + 1) nodes a → Closes (nodeBytes (whole (rootOf a))) middle behind a r
               → Gives c text (Going at words nodes) before r behind
           by a (takes {ws} {x} {to} {m} {n} rd em en few wr) q =
               let l = listed x in
@@ -111,7 +112,7 @@ module _ (text : List ℕ) where
               let o = some nodes x in
               as-closed (q .0)
               (given (build ws x (rd .reads)) (rd .split) (rd .far) (rd .within) em (rw l (omega arith)) (rw l (omega arith))
-              (rw l (wrote-then wr en (wrote-as (λ h. ap whole (root-at n (omega arith) en (omega arith))) (q .1)))))
+              (rw l (wrote-then wr en (wrote-as (λ h. ap whole (root-at n (omega arith) en (omega arith))) (wrote-one (whole (rootOf (Going to m n))) (q .1))))))
           by a (sticks h em) q = stuck-behind f h em (q .0) (q .1 ∙ g .sized)
 
       -- two parts
@@ -120,19 +121,19 @@ module _ (text : List ℕ) where
           → ((us : List Word) (x : Reading c₁) (vs : List Word) (y : Reading c₂) → Reads c₁ us x → Reads c₂ vs y → Reads c (w ∷ (us ++ vs)) (make x y))
           → ((x : Reading c₁) (y : Reading c₂) → nodesOf c nodes (make x y) ≡ overTwo nodes (nodesOf c₁ nodes x) (nodesOf c₂ (nodes + length (nodesOf c₁ nodes x)) y) whole)
           → ((n : ℕ) (x : Reading c₁) → 1 ≤ length (nodesOf c₁ n x)) → ((n : ℕ) (y : Reading c₂) → 1 ≤ length (nodesOf c₂ n y))
-          → Gives c₁ text (Going next (words + 1) nodes) before a m₁ → Gives c₂ text a m₁ b m₂ → Closes (whole (rootOf a) (rootOf b)) m₂ behind b r
+          → Gives c₁ text (Going next (words + 1) nodes) before a m₁ → Gives c₂ text a m₁ b m₂ → Closes (nodeBytes (whole (rootOf a) (rootOf b))) m₂ behind b r
           → Gives c text (Going at words nodes) before r behind
       two-parts {c₁} {c₂} make whole {m₁} {m₂} {a} {b} f build listed some₁ some₂ g h q = by a (g .took) (h .took) q
         where
-          by : (a : Progress) → Took c₁ text before m₁ next (words + 1) nodes a → TookBy c₂ text m₁ m₂ a b → Closes (whole (rootOf a) (rootOf b)) m₂ behind b r
+          by : (a : Progress) → Took c₁ text before m₁ next (words + 1) nodes a → TookBy c₂ text m₁ m₂ a b → Closes (nodeBytes (whole (rootOf a) (rootOf b))) m₂ behind b r
               → Gives c text (Going at words nodes) before r behind
           by a (sticks k em) e q =
-              let z = closes-stuck (whole 0 (rootOf b)) m₂ behind e q in
+              let z = closes-stuck (nodeBytes (whole 0 (rootOf b))) m₂ behind e q in
               stuck-behind f (sticks-under (c₂ ∷ []) k) em (z .0) (z .1 ∙ h .sized ∙ g .sized)
           by a (takes {ws = us} {x} {to} {m} {n} rd em en few wr) t q = second b (subst (λ (j : ℕ). Took c₂ text m₁ m₂ to m j b) en t) q
             where
               second : (b : Progress) → Took c₂ text m₁ m₂ to m (nodes + length (nodesOf c₁ nodes x)) b
-                  → Closes (whole (rootOf (Going to m n)) (rootOf b)) m₂ behind b r → Gives c text (Going at words nodes) before r behind
+                  → Closes (nodeBytes (whole (rootOf (Going to m n)) (rootOf b))) m₂ behind b r → Gives c text (Going at words nodes) before r behind
               second b (sticks {k} {d = d} k-sticks em′) q =
                   stuck-behind f (subst (λ (l : List Word). Sticks (c₁ ∷ c₂ ∷ []) l (length us + k) d) (sym (rd .split)) (sticks-after (rd .reads) k-sticks)) (omega arith)
                   (q .0) (q .1 ∙ h .sized ∙ g .sized)
@@ -153,18 +154,18 @@ module _ (text : List ℕ) where
                   (wrote-then wr′ en′
                   (wrote-as
                   (λ room. ap (λ (i : ℕ). whole i (rootOf (Going to′ m′ n′))) (root-at n (omega arith) en (omega arith)) ∙ ap (λ (i : ℕ). whole (nodes + length xs - 1) i) (root-at n′ (omega arith) en′ (omega arith)))
-                  (q .1))))))
+                  (wrote-one (whole (rootOf (Going to m n)) (rootOf (Going to′ m′ n′))) (q .1)))))))
 
       -- a number
       pub number-part : (make : ℕ → Reading c) (whole : ℕ → Node) {k : ℕ} {a : Progress} → Fits c w (Number ∷ [])
           → ((us : List Word) (j : ℕ) → Reads Number us j → Reads c (w ∷ us) (make j)) → ((j : ℕ) → nodesOf c nodes (make j) ≡ whole j ∷ [])
-          → GivesNumber text (Going next (words + 1) nodes) a k → Closes (whole k) before behind a r → Gives c text (Going at words nodes) before r behind
+          → GivesNumber text (Going next (words + 1) nodes) a k → Closes (nodeBytes (whole k)) before behind a r → Gives c text (Going at words nodes) before r behind
       number-part make whole {k} {a} f build listed g q = by a (g .took) q
         where
-          by : (a : Progress) → TookNumber text next (words + 1) nodes a k → Closes (whole k) before behind a r → Gives c text (Going at words nodes) before r behind
+          by : (a : Progress) → TookNumber text next (words + 1) nodes a k → Closes (nodeBytes (whole k)) before behind a r → Gives c text (Going at words nodes) before r behind
           by a (number-takes {ws} rd em) q =
               let l = listed k in
-              as-closed (q .0) (given (build ws k (rd .reads)) (rd .split) (rd .far) (rd .within) em (rw l (omega arith)) (rw l (omega arith)) (rw l (q .1)))
+              as-closed (q .0) (given (build ws k (rd .reads)) (rd .split) (rd .far) (rd .within) em (rw l (omega arith)) (rw l (omega arith)) (rw l (wrote-one (whole k) (q .1))))
           by a (number-sticks h em) q = stuck-behind f h em (q .0) (q .1)
 
       -- a number and three parts
@@ -178,7 +179,7 @@ module _ (text : List ℕ) where
           → ((n : ℕ) (x : Reading c₁) → 1 ≤ length (nodesOf c₁ n x)) → ((n : ℕ) (y : Reading c₂) → 1 ≤ length (nodesOf c₂ n y))
           → ((n : ℕ) (z : Reading c₃) → 1 ≤ length (nodesOf c₃ n z))
           → GivesNumber text (Going next (words + 1) nodes) s k → Gives c₁ text s before a m₁ → Gives c₂ text a m₁ b m₂ → Gives c₃ text b m₂ e m₃
-          → Closes (whole k (rootOf a) (rootOf b) (rootOf e)) m₃ behind e r → Gives c text (Going at words nodes) before r behind
+          → Closes (nodeBytes (whole k (rootOf a) (rootOf b) (rootOf e))) m₃ behind e r → Gives c text (Going at words nodes) before r behind
       three-parts {c₁} {c₂} {c₃} make whole {m₁} {m₂} {m₃} {k} {s} {a} {b} {e} f build listed some₁ some₂ some₃ g₀ g₁ g₂ g₃ q =
           zeroth s (g₀ .took) (g₁ .took) (g₂ .took) (g₃ .took) q
         where
@@ -186,13 +187,13 @@ module _ (text : List ℕ) where
           size = g₃ .sized ∙ g₂ .sized ∙ g₁ .sized
 
           stop : {j m : ℕ} {d : Category} (node : Node) (e : Progress) → Sticks (Number ∷ c₁ ∷ c₂ ∷ c₃ ∷ []) (wordsFrom text next) j d → m ≡ words + 1 + j → e ≡ Stuck m d
-              → Closes node m₃ behind e r → Gives c text (Going at words nodes) before r behind
+              → Closes (nodeBytes node) m₃ behind e r → Gives c text (Going at words nodes) before r behind
           stop node e h em x q =
-              let z = closes-stuck node m₃ behind x q in
+              let z = closes-stuck (nodeBytes node) m₃ behind x q in
               stuck-behind f h em (z .0) (z .1 ∙ size)
 
           zeroth : (s : Progress) → TookNumber text next (words + 1) nodes s k → TookBy c₁ text before m₁ s a → TookBy c₂ text m₁ m₂ a b → TookBy c₃ text m₂ m₃ b e
-              → Closes (whole k (rootOf a) (rootOf b) (rootOf e)) m₃ behind e r → Gives c text (Going at words nodes) before r behind
+              → Closes (nodeBytes (whole k (rootOf a) (rootOf b) (rootOf e))) m₃ behind e r → Gives c text (Going at words nodes) before r behind
           zeroth s (number-sticks {m = m} {d = d} h em) t₁ t₂ t₃ q =
               let u = subst (λ (p : Progress). TookBy c₂ text m₁ m₂ p b) t₁ t₂ in
               let v = subst (λ (p : Progress). TookBy c₃ text m₂ m₃ p e) u t₃ in
@@ -205,7 +206,7 @@ module _ (text : List ℕ) where
                   subst (λ (l : List Word). Sticks (Number ∷ c₁ ∷ c₂ ∷ c₃ ∷ []) l (length ts + j) d) (sym (rd₀ .split ∙ ap (λ (l : List Word). ts ++ l) x)) (sticks-after (rd₀ .reads) h)
 
               first : (a : Progress) → Took c₁ text before m₁ to₀ w₀ nodes a → TookBy c₂ text m₁ m₂ a b → TookBy c₃ text m₂ m₃ b e
-                  → Closes (whole k (rootOf a) (rootOf b) (rootOf e)) m₃ behind e r → Gives c text (Going at words nodes) before r behind
+                  → Closes (nodeBytes (whole k (rootOf a) (rootOf b) (rootOf e))) m₃ behind e r → Gives c text (Going at words nodes) before r behind
               first a (sticks h em) t₂ t₃ q =
                   let v = subst (λ (p : Progress). TookBy c₃ text m₂ m₃ p e) t₂ t₃ in
                   stop (whole k (rootOf a) (rootOf b) (rootOf e)) e (behind-number refl (sticks-under (c₂ ∷ c₃ ∷ []) h)) (omega arith) v q
@@ -213,7 +214,7 @@ module _ (text : List ℕ) where
                   second b (subst (λ (j : ℕ). Took c₂ text m₁ m₂ to₁ w₁ j b) en₁ t₂) t₃ q
                 where
                   second : (b : Progress) → Took c₂ text m₁ m₂ to₁ w₁ (nodes + length (nodesOf c₁ nodes x)) b → TookBy c₃ text m₂ m₃ b e
-                      → Closes (whole k (rootOf (Going to₁ w₁ n₁)) (rootOf b) (rootOf e)) m₃ behind e r → Gives c text (Going at words nodes) before r behind
+                      → Closes (nodeBytes (whole k (rootOf (Going to₁ w₁ n₁)) (rootOf b) (rootOf e))) m₃ behind e r → Gives c text (Going at words nodes) before r behind
                   second b (sticks h em) t₃ q =
                       stop (whole k (rootOf (Going to₁ w₁ n₁)) (rootOf b) (rootOf e)) e (behind-number (rd₁ .split) (sticks-after (rd₁ .reads) (sticks-under (c₃ ∷ []) h))) (omega arith) t₃ q
                   second b (takes {ws = vs} {x = y} {to = to₂} {m = w₂} {n = n₂} rd₂ em₂ en₂ few₂ wr₂) t₃ q =
@@ -221,7 +222,7 @@ module _ (text : List ℕ) where
                     where
                       third : (e : Progress)
                           → Took c₃ text m₂ m₃ to₂ w₂ (nodes + length (nodesOf c₁ nodes x) + length (nodesOf c₂ (nodes + length (nodesOf c₁ nodes x)) y)) e
-                          → Closes (whole k (rootOf (Going to₁ w₁ n₁)) (rootOf (Going to₂ w₂ n₂)) (rootOf e)) m₃ behind e r
+                          → Closes (nodeBytes (whole k (rootOf (Going to₁ w₁ n₁)) (rootOf (Going to₂ w₂ n₂)) (rootOf e))) m₃ behind e r
                           → Gives c text (Going at words nodes) before r behind
                       third e (sticks h em) q =
                           stop (whole k (rootOf (Going to₁ w₁ n₁)) (rootOf (Going to₂ w₂ n₂)) (rootOf e)) e
@@ -254,4 +255,4 @@ module _ (text : List ℕ) where
                           ap (λ (i : ℕ). node i (rootOf (Going to₂ w₂ n₂)) (rootOf (Going to₃ w₃ n₃))) (root-at n₁ (omega arith) en₁ (omega arith))
                           ∙ ap (λ (i : ℕ). node i₁ i (rootOf (Going to₃ w₃ n₃))) (root-at n₂ (omega arith) en₂ (omega arith))
                           ∙ ap (λ (i : ℕ). node i₁ i₂ i) (root-at n₃ (omega arith) en₃ (omega arith)))
-                          (q .1)))))))
+                          (wrote-one (node (rootOf (Going to₁ w₁ n₁)) (rootOf (Going to₂ w₂ n₂)) (rootOf (Going to₃ w₃ n₃))) (q .1))))))))

@@ -9,7 +9,7 @@ use lib.Seq.{sets, sets-eq, length-sets, take-at}
 use Rattle.syntax.specs.declared.Node.{Node}
 use Rattle.sheet.specs.Writing.{nodeBytes}
 use Rattle.grammar.specs.declared.Category.{Category}
-use Rattle.text_reader.specs.Progress.{allBytes, Wrote, Closes}
+use Rattle.text_reader.specs.Progress.{allBytes, Wrote, WroteOne, Closes}
 use Rattle.text_reader.specs.declared.Progress.{Progress}
 use Rattle.text_reader.specs.declared.Progress.the-variants.{Going, Stuck}
 
@@ -34,28 +34,32 @@ pub wrote-as : {n : ℕ} {x y : List ℕ} {a b : Node} → (n + 1 ≤ 64 → a �
 wrote-as {n} {x} {y} {a} {b} e w =
     record { sized = w .sized; front = λ h. w .front h ∙ ap (λ (node : Node). take (5 * n) x ++ allBytes (node ∷ [])) (e h) }
 
--- One node, where there is room and where there is none.
-pub wrote-node : (node : Node) (n : ℕ) (x : List ℕ) → n < 64 → length x ≡ 320 → Wrote (node ∷ []) n x (sets x (5 * n) (nodeBytes node))
-wrote-node node n x h l = record { sized = length-sets x (5 * n) (nodeBytes node); front = front }
-  where
-    front : n + 1 ≤ 64 → take (5 * (n + 1)) (sets x (5 * n) (nodeBytes node)) ≡ take (5 * n) x ++ allBytes (node ∷ [])
-    front g =
-        let e = sets-eq (nodeBytes node) x (5 * n) (omega arith) in
-        let t = length-take (5 * n) x in
-        let k : length (take (5 * n) x ++ nodeBytes node) ≡ 5 * (n + 1) = length-append (take (5 * n) x) (nodeBytes node) ∙ omega arith in
-        rw (e, append-nil) (take-at (take (5 * n) x ++ nodeBytes node) (drop (5 * n + 5) x) (5 * (n + 1)) k)
+-- The bytes of a node are those of a list of one.
+pub wrote-one : (node : Node) {n : ℕ} {x y : List ℕ} → WroteOne (nodeBytes node) n x y → Wrote (node ∷ []) n x y
+wrote-one node w = record { sized = w .sized; front = λ h. rw append-nil (w .front h) }
 
-pub wrote-past : (node : Node) (n : ℕ) (x : List ℕ) → 64 ≤ n → Wrote (node ∷ []) n x x
-wrote-past node n x h = record { sized = refl; front = λ g. absurd (omega arith) }
+-- Bytes of one node, where there is room and where there is none.
+pub wrote-bytes : (bytes : List ℕ) (n : ℕ) (x y : List ℕ) → n < 64 → length x ≡ 320 → length bytes ≡ 5 → y ≡ sets x (5 * n) bytes → WroteOne bytes n x y
+wrote-bytes bytes n x y h l five s = record { sized = ap length s ∙ length-sets x (5 * n) bytes; front = front }
+  where
+    front : n + 1 ≤ 64 → take (5 * (n + 1)) y ≡ take (5 * n) x ++ bytes
+    front g =
+        let e = sets-eq bytes x (5 * n) (omega arith) in
+        let t = length-take (5 * n) x in
+        let k : length (take (5 * n) x ++ bytes) ≡ 5 * (n + 1) = length-append (take (5 * n) x) bytes ∙ omega arith in
+        rw (s, e) (take-at (take (5 * n) x ++ bytes) (drop (5 * n + length bytes) x) (5 * (n + 1)) k)
+
+pub wrote-past : (bytes : List ℕ) (n : ℕ) (x : List ℕ) → 64 ≤ n → WroteOne bytes n x x
+wrote-past bytes n x h = record { sized = refl; front = λ g. absurd (omega arith) }
 
 -- The number of a node in a byte.
 pub root-is : (n : ℕ) → 1 ≤ n → n ≤ 64 → (n % 256 + 255) % 256 ≡ n - 1
 root-is n h g = omega arith
 
 -- A node closes where reading goes on, and nothing where it is stuck.
-module _ (node : Node) (before behind : List ℕ) {p : Progress} where
-  pub closes-going : {at words n : ℕ} → p ≡ Going at words n → Wrote (node ∷ []) n before behind → Closes node before behind p (Going at words (n + 1))
-  closes-going {at} {words} {n} e w = subst (λ (p : Progress). Closes node before behind p (Going at words (n + 1))) (sym e) (refl, w)
+module _ (bytes before behind : List ℕ) {p r : Progress} where
+  pub closes-going : {at words n : ℕ} → p ≡ Going at words n → r ≡ Going at words (n + 1) → WroteOne bytes n before behind → Closes bytes before behind p r
+  closes-going e e′ w = subst (λ (p : Progress). Closes bytes before behind p r) (sym e) (e′, w)
 
-  pub closes-still : {m : ℕ} {d : Category} → p ≡ Stuck m d → length behind ≡ length before → Closes node before behind p p
-  closes-still {m} {d} e l = subst (λ (q : Progress). Closes node before behind q q) (sym e) (refl, l)
+  pub closes-still : {m : ℕ} {d : Category} → p ≡ Stuck m d → r ≡ p → length behind ≡ length before → Closes bytes before behind p r
+  closes-still e e′ l = subst (λ (p : Progress). Closes bytes before behind p r) (sym e) (e′ ∙ e, l)

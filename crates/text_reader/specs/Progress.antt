@@ -2,18 +2,22 @@
 -- Assumes nothing.
 use mathlib.Core.Path.{_≡_}
 use mathlib.Core.List.{List, [], _∷_, _++_}
-use Prim.Native.Nat.{ℕ, _+_, _*_, _-_, _%_, _≤_}
+use Prim.Native.Nat.{ℕ, _+_, _*_, _-_, _%_, _≤_, _<_}
 use lib.ListN.{length, take}
 use Rattle.syntax.specs.declared.Node.{Node}
 use Rattle.sheet.specs.Writing.{nodeBytes}
 use Rattle.grammar.specs.Words.{Word}
-use Rattle.grammar.specs.Spelling.{numberWord}
+use Rattle.grammar.specs.Spelling.{tokenOf}
 use Rattle.grammar.specs.Grammar.{Rule, Reading, Reads}
 use Rattle.grammar.specs.Productions.{Sticks}
 use Rattle.grammar.specs.Nodes.{nodesOf}
 use Rattle.grammar.specs.declared.Category.{Category}
 use Rattle.grammar.specs.declared.Category.the-variants.{Text, Number, End}
+use Rattle.grammar.specs.declared.Token.{Token}
 use Rattle.text_words.specs.Next.{wordsFrom}
+use Rattle.text_reader.specs.Packed.{progressOf}
+use Rattle.text_reader.specs.declared.Taken.{Taken}
+use Rattle.text_reader.specs.declared.Taken.the-variants.{Word as found, Nothing as nothing-left}
 use Rattle.text_reader.specs.declared.Progress.{Progress}
 use Rattle.text_reader.specs.declared.Progress.the-variants.{Going, Stuck}
 
@@ -40,6 +44,11 @@ abbrev pub unread : List ℕ → Progress → ℕ
 unread text (Going at words nodes) = length text - at
 unread text (Stuck words expected) = 0
 
+-- Reading is stuck before the word that comes next, or where it was already.
+abbrev pub stuckAt : Progress → Category → Progress
+stuckAt (Going at words nodes) c = Stuck words c
+stuckAt (Stuck words expected) c = Stuck words expected
+
 -- A word has a byte or more, a node a word or more.
 pub record Sane (text : List ℕ) (p : Progress) : Type 0 where
   pub short : length text ≤ 1024
@@ -52,6 +61,31 @@ pub record Lent (text : List ℕ) (p : Progress) (room : List ℕ) : Type 0 wher
   pub sane : Sane text p
   pub sixty-four : length room ≡ 320
 
+-- A word stands at the position of a reading that goes on: its token, and the progress behind it.
+pub record Here (text : List ℕ) (p : Progress) (token : Token) (behind : Progress) : Type 0 where
+  pub at : ℕ
+  pub words : ℕ
+  pub nodes : ℕ
+  pub next : ℕ
+  pub going : p ≡ Going at words nodes
+  pub goes-on : behind ≡ Going next (words + 1) nodes
+  pub sane : Sane text (Going at words nodes)
+  pub this : Word
+  pub is : tokenOf this ≡ token
+  pub far : at < next
+  pub inside : next ≤ length text
+  pub ahead : wordsFrom text at ≡ this ∷ wordsFrom text next
+
+-- No word is left, or reading is stuck.
+abbrev pub Exhausted : List ℕ → Progress → Type 0
+Exhausted text (Going at words nodes) = wordsFrom text at ≡ []
+Exhausted text (Stuck words expected) = Unit {0}
+
+-- What taking a word gives.
+pub data Takes (text : List ℕ) (p : Progress) : Taken → Type 0 where
+  word : {token : Token} {behind : ℕ} → Here text p token (progressOf behind) → Takes text p (found token behind)
+  nothing : Exhausted text p → Takes text p nothing-left
+
 -- the bytes of nodes one behind the other
 abbrev pub allBytes : List Node → List ℕ
 allBytes [] = []
@@ -62,10 +96,20 @@ pub record Wrote (nodes : List Node) (n : ℕ) (before behind : List ℕ) : Type
   pub sized : length behind ≡ length before
   pub front : n + length nodes ≤ 64 → take (5 * (n + length nodes)) behind ≡ take (5 * n) before ++ allBytes nodes
 
--- A node is added where reading goes on.
-abbrev pub Closes : Node → List ℕ → List ℕ → Progress → Progress → Type 0
-Closes node before behind (Going at words nodes) r = (r ≡ Going at words (nodes + 1)) × Wrote (node ∷ []) nodes before behind
-Closes node before behind (Stuck words expected) r = (r ≡ Stuck words expected) × (length behind ≡ length before)
+-- The bytes of one node more are written behind the first n, where there is room.
+pub record WroteOne (bytes : List ℕ) (n : ℕ) (before behind : List ℕ) : Type 0 where
+  pub sized : length behind ≡ length before
+  pub front : n + 1 ≤ 64 → take (5 * (n + 1)) behind ≡ take (5 * n) before ++ bytes
+
+-- A node of these bytes is added where reading goes on.
+abbrev pub Closes : List ℕ → List ℕ → List ℕ → Progress → Progress → Type 0
+Closes bytes before behind (Going at words nodes) r = (r ≡ Going at words (nodes + 1)) × WroteOne bytes nodes before behind
+Closes bytes before behind (Stuck words expected) r = (r ≡ Stuck words expected) × (length behind ≡ length before)
+
+-- What adding a node asks.
+pub record Closable (p : Progress) (room : List ℕ) : Type 0 where
+  pub few-nodes : nodesIn p ≤ 1024
+  pub sixty-four : length room ≡ 320
 
 -- The words from a position on begin with words of the category, up to another position.
 pub record ReadTo (c : Category) (text : List ℕ) (at : ℕ) (ws : List Word) (x : Reading c) (to : ℕ) : Type 0 where

@@ -2,6 +2,7 @@
 use crate::Progress;
 use crate::TextRead;
 use crate::readers::read_rule;
+use crate::steps::unpack;
 ghost use Rattle.text_reader.specs.Calling.{answerOf, ReadsAs, ReadsInto, Tells, SomeActions, SheetRoom, WritesSheet};
 ghost use mathlib.Core.Path.{_≡_};
 ghost use Prim.Native.Nat.{_≤_};
@@ -39,8 +40,8 @@ fn read_short(text: &[u8], actions: &[u16], out: &mut [u8]) -> TextRead
     ensures { λ r. ⌜ ReadsAs (now (text .entry)) (now (actions .entry)) (now (out .entry)) (answerOf r) (now (out .exit)) × Tells (now (text .entry)) r ⌝ }
 {
     let mut nodes = room();
-    match read_rule(text, &mut nodes) {
-        Progress::Stuck { words, expected } => TextRead::Unreadable(words as usize, expected),
+    match unpack(read_rule(text, &mut nodes)) {
+        Progress::Stuck { words, expected } => TextRead::Unreadable(words, expected),
         Progress::Going {
             at: _,
             words: _,
@@ -49,7 +50,7 @@ fn read_short(text: &[u8], actions: &[u16], out: &mut [u8]) -> TextRead
             if 64 < count {
                 return TextRead::TooManyNodes;
             }
-            write_sheet(actions, count as usize, &nodes, out)
+            write_sheet(actions, count, &nodes, out)
         }
     }
 }

@@ -1,21 +1,38 @@
 // Reading rule texts: a reader for each category of the language (crate grammar), and the public call.
 use grammar::Category;
+use grammar::Token;
 
 mod call;
 mod closing;
+mod kinds;
 mod readers;
+mod steps;
 
 pub use call::read_text;
 
 // How far reading has come: the position, and how many words and nodes stand before it; or after how many words it is stuck, and what was to come there.
+// Functions hand it on in one number (specs/Packed.antt).
 pub enum Progress {
-    Going { at: u16, words: u16, nodes: u16 },
-    Stuck { words: u16, expected: Category },
+    Going {
+        at: usize,
+        words: usize,
+        nodes: usize,
+    },
+    Stuck {
+        words: usize,
+        expected: Category,
+    },
+}
+
+// The word that comes next, with the progress behind it; or there is none, or reading is stuck already.
+pub enum Taken {
+    Word(Token, u64),
+    Nothing,
 }
 
 // Progress behind a number, and the number.
 pub struct NumberRead {
-    pub progress: Progress,
+    pub progress: u64,
     pub number: u8,
 }
 

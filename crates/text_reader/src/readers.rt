@@ -1,260 +1,210 @@
 // A reader for each category. Where reading is stuck already it stays so; nodes are written behind those that are there.
 use crate::NumberRead;
-use crate::Progress;
-use crate::closing::close;
-use crate::closing::root;
+use crate::Taken;
+use crate::closing::close_leaf;
+use crate::closing::close_one;
+use crate::closing::close_three;
+use crate::closing::close_two;
+use crate::kinds;
+use crate::steps::going;
+use crate::steps::stuck;
+use crate::steps::take_word;
 use grammar::Category;
 use grammar::Token;
-use syntax::Node;
-use text_words::Next;
-use text_words::read_word;
-ghost use mathlib.Core.Path.{_≡_};
 ghost use Prim.Native.Nat.{_≤_};
+ghost use mathlib.Core.Path.{_≡_};
 ghost use lib.ListN.{length};
 ghost use Rattle.grammar.specs.declared.Category.the-variants.{Watched, Enforced, Formula};
+ghost use Rattle.text_reader.specs.Packed.{progressOf};
 ghost use Rattle.text_reader.specs.Progress.{Sane, Lent, Gives, GivesNumber, Ended, Whole};
 
-// Reading is stuck before the word that comes next.
-fn stuck(words: u16, expected: Category) -> Progress
-    ensures { λ r. ⌜ r ≡ Progress.Stuck words expected ⌝ }
-{
-    Progress::Stuck { words, expected }
-}
-
 // A number.
-fn read_number(text: &[u8], p: Progress) -> NumberRead
-    requires { ⌜ Sane (now text) p ⌝ }
-    ensures { λ r. ⌜ GivesNumber (now (text .entry)) p (r .progress) (r .number) ⌝ }
+fn read_number(text: &[u8], p: u64) -> NumberRead
+    requires { ⌜ Sane (now text) (progressOf p) ⌝ }
+    ensures { λ r. ⌜ GivesNumber (now (text .entry)) (progressOf p) (progressOf (r .progress)) (r .number) ⌝ }
 {
-    let Progress::Going { at, words, nodes } = p else {
+    let Taken::Word(token, behind) = take_word(text, p) else {
         return NumberRead {
-            progress: p,
+            progress: stuck(p, Category::Number),
             number: 0,
         };
     };
-    match read_word(text, at as usize) {
-        Next::Word(token, next) => match token {
-            Token::Number(number) => NumberRead {
-                progress: Progress::Going {
-                    at: next as u16,
-                    words: words + 1,
-                    nodes,
-                },
-                number,
-            },
-            _ => NumberRead {
-                progress: stuck(words, Category::Number),
-                number: 0,
-            },
+    match token {
+        Token::Number(number) => NumberRead {
+            progress: behind,
+            number,
         },
-        Next::Nothing => NumberRead {
-            progress: stuck(words, Category::Number),
+        _ => NumberRead {
+            progress: stuck(p, Category::Number),
             number: 0,
         },
     }
 }
 
 // An action formula.
-pub fn read_formula(text: &[u8], p: Progress, out: &mut [u8]) -> Progress
-    requires { ⌜ Lent (now text) p (now out) ⌝ }
-    ensures { λ r. ⌜ Gives Formula (now (text .entry)) p (now (out .entry)) r (now (out .exit)) ⌝ }
+pub fn read_formula(text: &[u8], p: u64, out: &mut [u8; 320]) -> u64
+    requires { ⌜ Lent (now text) (progressOf p) (now out) ⌝ }
+    ensures { λ r. ⌜ Gives Formula (now (text .entry)) (progressOf p) (now (out .entry)) (progressOf r) (now (out .exit)) ⌝ }
 {
-    let Progress::Going { at, words, nodes } = p else {
-        return p;
-    };
-    let Next::Word(token, next) = read_word(text, at as usize) else {
-        return stuck(words, Category::Formula);
-    };
-    let parts = Progress::Going {
-        at: next as u16,
-        words: words + 1,
-        nodes,
+    let Taken::Word(token, parts) = take_word(text, p) else {
+        return stuck(p, Category::Formula);
     };
     match token {
-        Token::True => close(parts, Node::True, out),
-        Token::False => close(parts, Node::False, out),
-        Token::Proposition(number) => close(parts, Node::Proposition(number), out),
+        Token::True => close_leaf(kinds::TRUE, 0, parts, out),
+        Token::False => close_leaf(kinds::FALSE, 0, parts, out),
+        Token::Proposition(number) => close_leaf(kinds::PROPOSITION, number, parts, out),
         Token::Not => {
             let a = read_formula(text, parts, out);
-            close(a, Node::Negation(root(a)), out)
+            close_one(kinds::NEGATION, a, out)
         }
         Token::And => {
             let a = read_formula(text, parts, out);
             let b = read_formula(text, a, out);
-            close(b, Node::Conjunction(root(a), root(b)), out)
+            close_two(kinds::CONJUNCTION, a, b, out)
         }
         Token::Or => {
             let a = read_formula(text, parts, out);
             let b = read_formula(text, a, out);
-            close(b, Node::Disjunction(root(a), root(b)), out)
+            close_two(kinds::DISJUNCTION, a, b, out)
         }
-        _ => stuck(words, Category::Formula),
+        _ => stuck(p, Category::Formula),
     }
 }
 
 // A watched policy.
-pub fn read_watched(text: &[u8], p: Progress, out: &mut [u8]) -> Progress
-    requires { ⌜ Lent (now text) p (now out) ⌝ }
-    ensures { λ r. ⌜ Gives Watched (now (text .entry)) p (now (out .entry)) r (now (out .exit)) ⌝ }
+pub fn read_watched(text: &[u8], p: u64, out: &mut [u8; 320]) -> u64
+    requires { ⌜ Lent (now text) (progressOf p) (now out) ⌝ }
+    ensures { λ r. ⌜ Gives Watched (now (text .entry)) (progressOf p) (now (out .entry)) (progressOf r) (now (out .exit)) ⌝ }
 {
-    let Progress::Going { at, words, nodes } = p else {
-        return p;
-    };
-    let Next::Word(token, next) = read_word(text, at as usize) else {
-        return stuck(words, Category::Watched);
-    };
-    let parts = Progress::Going {
-        at: next as u16,
-        words: words + 1,
-        nodes,
+    let Taken::Word(token, parts) = take_word(text, p) else {
+        return stuck(p, Category::Watched);
     };
     match token {
         Token::Now => {
             let a = read_formula(text, parts, out);
-            close(a, Node::Now(root(a)), out)
+            close_one(kinds::NOW, a, out)
         }
         Token::Count => {
             let k = read_number(text, parts);
-            let a = k.progress;
-            close(a, Node::Count(k.number), out)
+            close_leaf(kinds::COUNT, k.number, k.progress, out)
         }
         Token::Not => {
             let a = read_enforced(text, parts, out);
-            close(a, Node::Not(root(a)), out)
+            close_one(kinds::NOT, a, out)
         }
         Token::And => {
             let a = read_watched(text, parts, out);
             let b = read_watched(text, a, out);
-            close(b, Node::And(root(a), root(b)), out)
+            close_two(kinds::AND, a, b, out)
         }
         Token::Or => {
             let a = read_watched(text, parts, out);
             let b = read_watched(text, a, out);
-            close(b, Node::Or(root(a), root(b)), out)
+            close_two(kinds::OR, a, b, out)
         }
         Token::Eventually => {
             let a = read_watched(text, parts, out);
-            close(a, Node::Eventually(root(a)), out)
+            close_one(kinds::EVENTUALLY, a, out)
         }
         Token::Before => {
             let a = read_watched(text, parts, out);
             let b = read_watched(text, a, out);
-            close(b, Node::BeforeMinus(root(a), root(b)), out)
+            close_two(kinds::BEFORE_MINUS, a, b, out)
         }
         Token::After => {
             let a = read_watched(text, parts, out);
             let b = read_watched(text, a, out);
-            close(b, Node::AfterMinus(root(a), root(b)), out)
+            close_two(kinds::AFTER_MINUS, a, b, out)
         }
         Token::Ignoring => {
             let a = read_formula(text, parts, out);
             let b = read_watched(text, a, out);
-            close(b, Node::Ignoring(root(a), root(b)), out)
+            close_two(kinds::IGNORING, a, b, out)
         }
-        _ => stuck(words, Category::Watched),
+        _ => stuck(p, Category::Watched),
     }
 }
 
 // An enforced policy.
-pub fn read_enforced(text: &[u8], p: Progress, out: &mut [u8]) -> Progress
-    requires { ⌜ Lent (now text) p (now out) ⌝ }
-    ensures { λ r. ⌜ Gives Enforced (now (text .entry)) p (now (out .entry)) r (now (out .exit)) ⌝ }
+pub fn read_enforced(text: &[u8], p: u64, out: &mut [u8; 320]) -> u64
+    requires { ⌜ Lent (now text) (progressOf p) (now out) ⌝ }
+    ensures { λ r. ⌜ Gives Enforced (now (text .entry)) (progressOf p) (now (out .entry)) (progressOf r) (now (out .exit)) ⌝ }
 {
-    let Progress::Going { at, words, nodes } = p else {
-        return p;
-    };
-    let Next::Word(token, next) = read_word(text, at as usize) else {
-        return stuck(words, Category::Enforced);
-    };
-    let parts = Progress::Going {
-        at: next as u16,
-        words: words + 1,
-        nodes,
+    let Taken::Word(token, parts) = take_word(text, p) else {
+        return stuck(p, Category::Enforced);
     };
     match token {
         Token::Holds => {
             let a = read_formula(text, parts, out);
-            close(a, Node::Holds(root(a)), out)
+            close_one(kinds::HOLDS, a, out)
         }
         Token::Not => {
             let a = read_watched(text, parts, out);
-            close(a, Node::Not(root(a)), out)
+            close_one(kinds::NOT, a, out)
         }
         Token::And => {
             let a = read_enforced(text, parts, out);
             let b = read_enforced(text, a, out);
-            close(b, Node::And(root(a), root(b)), out)
+            close_two(kinds::AND, a, b, out)
         }
         Token::Or => {
             let a = read_enforced(text, parts, out);
             let b = read_enforced(text, a, out);
-            close(b, Node::Or(root(a), root(b)), out)
+            close_two(kinds::OR, a, b, out)
         }
         Token::Always => {
             let a = read_enforced(text, parts, out);
-            close(a, Node::Always(root(a)), out)
+            close_one(kinds::ALWAYS, a, out)
         }
         Token::Before => {
             let a = read_watched(text, parts, out);
             let b = read_enforced(text, a, out);
-            close(b, Node::BeforePlus(root(a), root(b)), out)
+            close_two(kinds::BEFORE_PLUS, a, b, out)
         }
         Token::After => {
             let a = read_watched(text, parts, out);
             let b = read_enforced(text, a, out);
-            close(b, Node::AfterPlus(root(a), root(b)), out)
+            close_two(kinds::AFTER_PLUS, a, b, out)
         }
         Token::Fulfilling => {
             let k = read_number(text, parts);
-            let start = k.progress;
-            let a = read_watched(text, start, out);
+            let a = read_watched(text, k.progress, out);
             let b = read_enforced(text, a, out);
             let c = read_enforced(text, b, out);
-            close(
-                c,
-                Node::Fulfilling(k.number, root(a), root(b), root(c)),
-                out,
-            )
+            close_three(kinds::FULFILLING, k.number, a, b, c, out)
         }
         Token::Ignoring => {
             let a = read_formula(text, parts, out);
             let b = read_enforced(text, a, out);
-            close(b, Node::Ignoring(root(a), root(b)), out)
+            close_two(kinds::IGNORING, a, b, out)
         }
-        _ => stuck(words, Category::Enforced),
+        _ => stuck(p, Category::Enforced),
     }
 }
 
 // Nothing stands behind what was read.
-fn ended(text: &[u8], p: Progress) -> Progress
-    requires { ⌜ Sane (now text) p ⌝ }
-    ensures { λ r. ⌜ Ended (now (text .entry)) p r ⌝ }
+fn ended(text: &[u8], p: u64) -> u64
+    requires { ⌜ Sane (now text) (progressOf p) ⌝ }
+    ensures { λ r. ⌜ Ended (now (text .entry)) (progressOf p) (progressOf r) ⌝ }
 {
-    let Progress::Going { at, words, nodes } = p else {
+    let Taken::Word(_, _) = take_word(text, p) else {
         return p;
     };
-    match read_word(text, at as usize) {
-        Next::Word(_, _) => stuck(words, Category::End),
-        Next::Nothing => Progress::Going { at, words, nodes },
-    }
+    stuck(p, Category::End)
 }
 
 // A whole text, from its front.
-pub fn read_rule(text: &[u8], out: &mut [u8]) -> Progress
+pub fn read_rule(text: &[u8], out: &mut [u8; 320]) -> u64
     requires { ⌜ (length (now text) ≤ 1024) × (length (now out) ≡ 320) ⌝ }
-    ensures { λ r. ⌜ Whole (now (text .entry)) (now (out .exit)) r ⌝ }
+    ensures { λ r. ⌜ Whole (now (text .entry)) (now (out .exit)) (progressOf r) × (length (now (out .exit)) ≡ 320) ⌝ }
 {
-    let Next::Word(token, next) = read_word(text, 0) else {
-        return stuck(0, Category::Text);
-    };
-    let parts = Progress::Going {
-        at: next as u16,
-        words: 1,
-        nodes: 0,
+    let front = going(0, 0, 0);
+    let Taken::Word(token, parts) = take_word(text, front) else {
+        return stuck(front, Category::Text);
     };
     match token {
         Token::Watch => ended(text, read_watched(text, parts, out)),
         Token::Enforce => ended(text, read_enforced(text, parts, out)),
-        _ => stuck(0, Category::Text),
+        _ => stuck(front, Category::Text),
     }
 }

@@ -1,19 +1,18 @@
 -- Which of the language's words a word can be, by its length.
 -- Assumes nothing.
 use mathlib.Core.Path.{_≡_, refl, sym, ap, _∙_}
-use mathlib.Core.Bool.{Bool, true, false, not, _&&_, and-false}
-use mathlib.Core.List.{[], _∷_}
+use mathlib.Core.Bool.{Bool, true, false, cond, _&&_, and-false}
+use mathlib.Core.List.{List, [], _∷_}
 use Prim.Native.Nat.{ℕ, suc, _<_}
-use Prim.Native.String.{String}
 use native.Mathlib.Omega.{arith}
-use lib.Dec.{T, eqb, leb}
+use lib.Dec.{eqb, leb}
 use lib.ListN.{length, getD, drop, length-drop}
-use borrow.Author.Tests.{eq-eqb, ne-eqb, eqb-true}
+use borrow.Author.Tests.{eq-eqb, eqb-true, ne-eqb}
 use Rattle.base.proofs.Truths.{not-true}
 use Rattle.grammar.specs.Words.{Word}
-use Rattle.grammar.specs.Spelling.{word, same, oneDigit, twoDigits, valueOf, isNumber, isProposition, whether, tokenOf}
+use Rattle.grammar.specs.Spelling.{word, same, oneDigit, twoDigits, valueOf, isNumber, isProposition, whether, Keyword, keywords, tokenIn, tokenOf}
 use Rattle.grammar.specs.declared.Token.{Token}
-use Rattle.grammar.specs.declared.Token.the-variants.{Watch, Enforce, Now, Holds, Count, Not, And, Or, Eventually, Always, Before, After, Fulfilling, Ignoring, True, False, Proposition, Number, Other}
+use Rattle.grammar.specs.declared.Token.the-variants.{Or, Proposition, Number, Other}
 
 -- Words of other lengths are others.
 pub lengths-differ : (v w : Word) → (length v ≡ length w → ⊥) → same v w ≡ false
@@ -21,6 +20,34 @@ lengths-differ [] [] n = absurd (n refl)
 lengths-differ [] (b ∷ w) n = refl
 lengths-differ (a ∷ v) [] n = refl
 lengths-differ (a ∷ v) (b ∷ w) n = rw (lengths-differ v w (λ e. n (ap suc e)), and-false)
+
+-- The words of one length in a table.
+abbrev keptIf : Bool → Keyword → List Keyword → List Keyword
+keptIf b k rest = cond b (k ∷ rest) rest
+
+abbrev pub ofLength : ℕ → List Keyword → List Keyword
+ofLength n [] = []
+ofLength n (k ∷ rest) = keptIf (eqb n (length (k .letters))) k (ofLength n rest)
+
+-- a length that no word of a table has
+abbrev Absent : ℕ → List Keyword → Type 0
+Absent n [] = Unit {0}
+Absent n (k ∷ rest) = (n ≡ length (k .letters) → ⊥) × Absent n rest
+
+absent : (n : ℕ) (table : List Keyword) → Absent n table → ofLength n table ≡ []
+absent n [] h = refl
+absent n (k ∷ rest) h = rw (ne-eqb n (length (k .letters)) (h .0)) (absent n rest (h .1))
+
+-- Only the words of its length can be a word.
+pub by-length : (table : List Keyword) (w : Word) (others : Token) → tokenIn table w others ≡ tokenIn (ofLength (length w) table) w others
+unfolding whether
+by-length [] w others = refl
+by-length (k ∷ rest) w others = by (eqb (length w) (length (k .letters))) refl (by-length rest w others)
+  where
+    by : (b : Bool) → eqb (length w) (length (k .letters)) ≡ b → tokenIn rest w others ≡ tokenIn (ofLength (length w) rest) w others
+        → tokenIn (k ∷ rest) w others ≡ tokenIn (keptIf b k (ofLength (length w) rest)) w others
+    by true e more = ap (whether (same w (k .letters)) (k .token)) more
+    by false e more = rw (lengths-differ w (k .letters) (λ q. not-true (sym e ∙ eq-eqb (length w) (length (k .letters)) q))) more
 
 long-value : (w : Word) → 2 < length w → valueOf w ≡ 100
 long-value w h = rw (ne-eqb (length w) 1 (λ e. omega arith), ne-eqb (length w) 2 (λ e. omega arith))
@@ -61,10 +88,8 @@ two (a ∷ b ∷ []) e = by (eqb a 112) refl
 two (a ∷ b ∷ c ∷ w) e = absurd (omega arith)
 
 pub three : (w : Word) → length w ≡ 3
-    → tokenOf w ≡ whether (same w (word "now")) Now
-    (whether (same w (word "not")) Not
-    (whether (same w (word "and")) And
-    (whether (eqb (getD w 0 0) 112 && leb (twoDigits (getD w 1 0) (getD w 2 0)) 15) (Proposition (twoDigits (getD w 1 0) (getD w 2 0))) Other)))
+    → tokenOf w ≡ tokenIn (ofLength 3 keywords) w
+    (whether (eqb (getD w 0 0) 112 && leb (twoDigits (getD w 1 0) (getD w 2 0)) 15) (Proposition (twoDigits (getD w 1 0) (getD w 2 0))) Other)
 unfolding tokenOf whether
 three [] e = absurd (omega arith)
 three (a ∷ []) e = absurd (omega arith)
@@ -73,175 +98,25 @@ three (a ∷ b ∷ c ∷ []) e = simp and-false
 three (a ∷ b ∷ c ∷ d ∷ w) e = absurd (omega arith)
 
 module _ (w : Word) where
-  -- w is not a word of another length
-  other : {n : ℕ} → length w ≡ n → (letters : String) → T (not (eqb n (length (word letters)))) → same w (word letters) ≡ false
-  other {n} e letters t = lengths-differ w (word letters) (λ q. differ (eqb n (length (word letters))) t (eq-eqb n (length (word letters)) (sym e ∙ q)))
-    where
-      differ : (b : Bool) → T (not b) → b ≡ true → ⊥
-      differ true t e = t
-      differ false t e = not-true e
+  abbrev noKeyword : Token
+  noKeyword = whether (isProposition w) (Proposition (valueOf (drop 1 w))) (whether (isNumber w) (Number (valueOf w)) Other)
 
-  pub four : length w ≡ 4 → tokenOf w ≡ whether (same w (word "true")) True Other
-  unfolding tokenOf whether
-  four e =
-      rw (
-        other e "watch" tt,
-        other e "enforce" tt,
-        other e "now" tt,
-        other e "holds" tt,
-        other e "count" tt,
-        other e "not" tt,
-        other e "and" tt,
-        other e "or" tt,
-        other e "eventually" tt,
-        other e "always" tt,
-        other e "before" tt,
-        other e "after" tt,
-        other e "fulfilling" tt,
-        other e "ignoring" tt,
-        other e "false" tt,
-        long-proposition w (omega arith),
-        long-number w (omega arith),
-      )
+  no-others : 3 < length w → noKeyword ≡ Other
+  unfolding whether
+  no-others h = rw (long-proposition w h, long-number w h)
 
-  pub five : length w ≡ 5
-      → tokenOf w ≡ whether (same w (word "watch")) Watch
-      (whether (same w (word "holds")) Holds
-      (whether (same w (word "count")) Count
-      (whether (same w (word "after")) After
-      (whether (same w (word "false")) False Other))))
-  unfolding tokenOf whether
-  five e =
-      rw (
-        other e "enforce" tt,
-        other e "now" tt,
-        other e "not" tt,
-        other e "and" tt,
-        other e "or" tt,
-        other e "eventually" tt,
-        other e "always" tt,
-        other e "before" tt,
-        other e "fulfilling" tt,
-        other e "ignoring" tt,
-        other e "true" tt,
-        long-proposition w (omega arith),
-        long-number w (omega arith),
-      )
-
-  pub six : length w ≡ 6 → tokenOf w ≡ whether (same w (word "always")) Always (whether (same w (word "before")) Before Other)
-  unfolding tokenOf whether
-  six e =
-      rw (
-        other e "watch" tt,
-        other e "enforce" tt,
-        other e "now" tt,
-        other e "holds" tt,
-        other e "count" tt,
-        other e "not" tt,
-        other e "and" tt,
-        other e "or" tt,
-        other e "eventually" tt,
-        other e "after" tt,
-        other e "fulfilling" tt,
-        other e "ignoring" tt,
-        other e "true" tt,
-        other e "false" tt,
-        long-proposition w (omega arith),
-        long-number w (omega arith),
-      )
-
-  pub seven : length w ≡ 7 → tokenOf w ≡ whether (same w (word "enforce")) Enforce Other
-  unfolding tokenOf whether
-  seven e =
-      rw (
-        other e "watch" tt,
-        other e "now" tt,
-        other e "holds" tt,
-        other e "count" tt,
-        other e "not" tt,
-        other e "and" tt,
-        other e "or" tt,
-        other e "eventually" tt,
-        other e "always" tt,
-        other e "before" tt,
-        other e "after" tt,
-        other e "fulfilling" tt,
-        other e "ignoring" tt,
-        other e "true" tt,
-        other e "false" tt,
-        long-proposition w (omega arith),
-        long-number w (omega arith),
-      )
-
-  pub eight : length w ≡ 8 → tokenOf w ≡ whether (same w (word "ignoring")) Ignoring Other
-  unfolding tokenOf whether
-  eight e =
-      rw (
-        other e "watch" tt,
-        other e "enforce" tt,
-        other e "now" tt,
-        other e "holds" tt,
-        other e "count" tt,
-        other e "not" tt,
-        other e "and" tt,
-        other e "or" tt,
-        other e "eventually" tt,
-        other e "always" tt,
-        other e "before" tt,
-        other e "after" tt,
-        other e "fulfilling" tt,
-        other e "true" tt,
-        other e "false" tt,
-        long-proposition w (omega arith),
-        long-number w (omega arith),
-      )
-
-  pub ten : length w ≡ 10 → tokenOf w ≡ whether (same w (word "eventually")) Eventually (whether (same w (word "fulfilling")) Fulfilling Other)
-  unfolding tokenOf whether
-  ten e =
-      rw (
-        other e "watch" tt,
-        other e "enforce" tt,
-        other e "now" tt,
-        other e "holds" tt,
-        other e "count" tt,
-        other e "not" tt,
-        other e "and" tt,
-        other e "or" tt,
-        other e "always" tt,
-        other e "before" tt,
-        other e "after" tt,
-        other e "ignoring" tt,
-        other e "true" tt,
-        other e "false" tt,
-        long-proposition w (omega arith),
-        long-number w (omega arith),
-      )
+  pub longer : {n : ℕ} → length w ≡ n → 3 < n → tokenOf w ≡ tokenIn (ofLength n keywords) w Other
+  unfolding tokenOf
+  longer e h =
+      by-length keywords w noKeyword
+      ∙ ap (tokenIn (ofLength (length w) keywords) w) (no-others (omega arith))
+      ∙ ap (λ (m : ℕ). tokenIn (ofLength m keywords) w Other) e
 
   -- no word of the language has nine bytes, or more than ten
   module _ (some : 0 < length w) (n1 : length w ≡ 1 → ⊥) (n2 : length w ≡ 2 → ⊥) (n3 : length w ≡ 3 → ⊥) (n4 : length w ≡ 4 → ⊥) (n5 : length w ≡ 5 → ⊥)
       (n6 : length w ≡ 6 → ⊥) (n7 : length w ≡ 7 → ⊥) (n8 : length w ≡ 8 → ⊥) (n10 : length w ≡ 10 → ⊥) where
     pub none : tokenOf w ≡ Other
-    unfolding tokenOf whether
     none =
-        let many = more-than-three (length w) some n1 n2 n3 in
-        rw (
-          lengths-differ w (word "watch") n5,
-          lengths-differ w (word "enforce") n7,
-          lengths-differ w (word "now") n3,
-          lengths-differ w (word "holds") n5,
-          lengths-differ w (word "count") n5,
-          lengths-differ w (word "not") n3,
-          lengths-differ w (word "and") n3,
-          lengths-differ w (word "or") n2,
-          lengths-differ w (word "eventually") n10,
-          lengths-differ w (word "always") n6,
-          lengths-differ w (word "before") n6,
-          lengths-differ w (word "after") n5,
-          lengths-differ w (word "fulfilling") n10,
-          lengths-differ w (word "ignoring") n8,
-          lengths-differ w (word "true") n4,
-          lengths-differ w (word "false") n5,
-          long-proposition w many,
-          long-number w many,
-        )
+        longer refl (more-than-three (length w) some n1 n2 n3)
+        ∙ ap (λ (table : List Keyword). tokenIn table w Other)
+        (absent (length w) keywords (n5, (n7, (n3, (n5, (n5, (n3, (n3, (n2, (n10, (n6, (n6, (n5, (n10, (n8, (n4, (n5, tt)))))))))))))))))

@@ -1,8 +1,9 @@
 -- `text_words::tokens::of_five` meets its contract.
 -- Assumes nothing.
+use native.Mathlib.Omega.{arith}
 use borrow.Author.Needs.{needs}
 use Rattle.grammar.specs.Spelling.{whether}
-use Rattle.text_words.proofs.ByLength.{five}
+use Rattle.text_words.proofs.ByLength.{longer}
 use Rattle.text_words.proofs.tokens.of_five.Statement.{statement}
 use Rattle.text_words.proofs.tokens.of_five.Tie as tie
 
@@ -10,14 +11,14 @@ returns : tie.Need-returns
 unfolding whether
 returns c =
     let s = c .before .before .before .before in
-    rw (five (s .args .word .now) (s .pre), ← c .before .same .ensures, c .if1 .taken)
+    rw (longer (s .args .word .now) (s .pre) (omega arith), ← c .before .same .ensures, c .if1 .taken)
 
 returns-2 : tie.Need-returns-2
 unfolding whether
 returns-2 c =
     let c1 = c .before .before .before in
     let s = c1 .before .before .before .before in
-    rw (five (s .args .word .now) (s .pre), ← c1 .before .same .ensures, c1 .if1 .left, ← c .before .same2 .ensures, c .if2 .taken)
+    rw (longer (s .args .word .now) (s .pre) (omega arith), ← c1 .before .same .ensures, c1 .if1 .left, ← c .before .same2 .ensures, c .if2 .taken)
 
 returns-3 : tie.Need-returns-3
 unfolding whether
@@ -26,7 +27,7 @@ returns-3 c =
     let c1 = c2 .before .before .before in
     let s = c1 .before .before .before .before in
     rw (
-      five (s .args .word .now) (s .pre),
+      longer (s .args .word .now) (s .pre) (omega arith),
       ← c1 .before .same .ensures,
       c1 .if1 .left,
       ← c2 .before .same2 .ensures,
@@ -43,7 +44,7 @@ returns-4 c =
     let c1 = c2 .before .before .before in
     let s = c1 .before .before .before .before in
     rw (
-      five (s .args .word .now) (s .pre),
+      longer (s .args .word .now) (s .pre) (omega arith),
       ← c1 .before .same .ensures,
       c1 .if1 .left,
       ← c2 .before .same2 .ensures,
@@ -63,7 +64,7 @@ returns-5 c =
     let c1 = c2 .before .before .before in
     let s = c1 .before .before .before .before in
     rw (
-      five (s .args .word .now) (s .pre),
+      longer (s .args .word .now) (s .pre) (omega arith),
       ← c1 .before .same .ensures,
       c1 .if1 .left,
       ← c2 .before .same2 .ensures,

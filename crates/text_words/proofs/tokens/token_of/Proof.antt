@@ -1,8 +1,9 @@
 -- `text_words::tokens::token_of` meets its contract.
 -- Assumes nothing.
 use mathlib.Core.Path.{sym}
+use native.Mathlib.Omega.{arith}
 use borrow.Author.Needs.{needs}
-use Rattle.text_words.proofs.ByLength.{one, four, seven, eight, none}
+use Rattle.text_words.proofs.ByLength.{one, longer, none}
 use Rattle.text_words.proofs.tokens.token_of.Statement.{statement}
 use Rattle.text_words.proofs.tokens.token_of.Tie as tie
 
@@ -14,17 +15,17 @@ returns c =
 returns-4 : tie.Need-returns-4
 returns-4 c =
     let m = c .before .before .before in
-    rw (four (m .before .before .args .word .now) (m .match .keys4), ← c .before .same .ensures) (c .whether .ensures)
+    rw (longer (m .before .before .args .word .now) (m .match .keys4) (omega arith), ← c .before .same .ensures) (c .whether .ensures)
 
 returns-7 : tie.Need-returns-7
 returns-7 c =
     let m = c .before .before .before in
-    rw (seven (m .before .before .args .word .now) (m .match .keys7), ← c .before .same2 .ensures) (c .whether2 .ensures)
+    rw (longer (m .before .before .args .word .now) (m .match .keys7) (omega arith), ← c .before .same2 .ensures) (c .whether2 .ensures)
 
 returns-8 : tie.Need-returns-8
 returns-8 c =
     let m = c .before .before .before in
-    rw (eight (m .before .before .args .word .now) (m .match .keys8), ← c .before .same3 .ensures) (c .whether3 .ensures)
+    rw (longer (m .before .before .args .word .now) (m .match .keys8) (omega arith), ← c .before .same3 .ensures) (c .whether3 .ensures)
 
 returns-10 : tie.Need-returns-10
 returns-10 c =

@@ -1,0 +1,2 @@
+pub mod CaseNumbers
+pub mod CompileNumbers

@@ -1,0 +1,39 @@
+-- Answers as one number of 64 bits: the number of the answer, a value, a count of actions and a count of rows, 16 bits each, lowest first.
+-- Assumes nothing.
+use mathlib.Core.Path.{_≡_}
+use mathlib.Core.Bool.{Bool, true, false}
+use mathlib.Core.List.{List, [], _∷_}
+use Prim.Native.Nat.{ℕ}
+use Rattle.base.specs.Fields.{packFields}
+use Rattle.table.specs.Answer.{Answer, accepted, refused}
+use Rattle.board.specs.Calls.{Reply, done, permitted, denied, input, state}
+
+-- Every field of what the calls answer is below `fieldSize` of crate base (crate lemondarts, proofs/Answers.antt, Spots.antt), so nothing is cut off.
+abbrev pub pack : (number value actions rows : ℕ) → ℕ
+pack number value actions rows = packFields (number ∷ value ∷ actions ∷ rows ∷ [])
+
+-- Number 0 is done and 255 is denied; any other is the number of a refusal (docs/FORMATS.md), its value the spot.
+abbrev pub packedReply : Reply → ℕ
+packedReply done = pack 0 0 0 0
+packedReply (permitted fulfilled) = pack 0 fulfilled 0 0
+packedReply (denied place) = pack 255 place 0 0
+packedReply (input number spot) = pack number spot 0 0
+packedReply (state number) = pack number 0 0 0
+
+-- The loader's and the compiler's answer: for a table its type, actions and rows; for a refusal its number and spot.
+abbrev pub packedAnswer : Answer → ℕ
+packedAnswer (accepted type actions rows) = pack 0 type actions rows
+packedAnswer (refused number spot) = pack number spot 0 0
+
+-- Whether an answer changes the board: a refusal and a denial do not.
+abbrev pub changes : Reply → Bool
+changes done = true
+changes (permitted fulfilled) = true
+changes (denied place) = false
+changes (input number spot) = false
+changes (state number) = false
+
+-- An answer's number, and whether it changes the board.
+pub record AnswerIs (reply : Reply) (number : ℕ) (changed : Bool) : Type 0 where
+  pub packs : number ≡ packedReply reply
+  pub tells : changed ≡ changes reply

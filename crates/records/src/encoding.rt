@@ -1,0 +1,109 @@
+// A board as a record of bytes, two a place: its case and its row.
+use board::Board;
+use board::Case;
+use board::PLACES;
+use board::Place;
+ghost use mathlib.Core.Path.{_≡_};
+ghost use Prim.Native.Nat.{_+_, _≤_, _<_};
+ghost use lib.ListN.{length};
+ghost use lib.Seq.{sets};
+ghost use Rattle.records.specs.Record.{placeOf, boardOf, caseByte, rowByte, placeBytes, written, recordLength};
+
+// The bytes of a place, and those of a record.
+const PLACE: usize = 2;
+
+pub const RECORD: usize = PLACE * PLACES;
+
+// The place of a case byte up to 3 and a row byte.
+fn known_place(case: u8, row: u8) -> Place
+    requires { ⌜ case < 4 ⌝ }
+    ensures { λ r. ⌜ r ≡ placeOf case row ⌝ }
+{
+    match case {
+        0 => Place { case: Case::Empty },
+        1 => Place {
+            case: Case::Enforced(row),
+        },
+        2 => Place {
+            case: Case::Watched(row),
+        },
+        _ => Place {
+            case: Case::Fulfilled,
+        },
+    }
+}
+
+// The place of two bytes. A case byte above 3 is read as an enforced rule at a row that no table has.
+fn place_of(case: u8, row: u8) -> Place
+    ensures { λ r. ⌜ r ≡ placeOf case row ⌝ }
+{
+    if case < 4 {
+        known_place(case, row)
+    } else {
+        Place {
+            case: Case::Enforced(255),
+        }
+    }
+}
+
+// The board of a record.
+pub fn read_board(bytes: &[u8]) -> Board
+    requires { ⌜ recordLength ≤ length (now bytes) ⌝ }
+    ensures { λ r. ⌜ r ≡ boardOf (now (bytes .entry)) ⌝ }
+{
+    let mut places = [Place { case: Case::Empty }; PLACES];
+    let mut i = 0;
+    while i < PLACES {
+        places[i] = place_of(bytes[PLACE * i], bytes[PLACE * i + 1]);
+        i += 1;
+    }
+    Board { places }
+}
+
+// The first byte of a place: its case.
+fn case_byte(case: Case) -> u8
+    ensures { λ r. ⌜ r ≡ caseByte case ⌝ }
+{
+    match case {
+        Case::Empty => 0,
+        Case::Enforced(_) => 1,
+        Case::Watched(_) => 2,
+        Case::Fulfilled => 3,
+    }
+}
+
+// The second byte of a place: its row.
+fn row_byte(case: Case) -> u8
+    ensures { λ r. ⌜ r ≡ rowByte case ⌝ }
+{
+    match case {
+        Case::Empty => 0,
+        Case::Enforced(row) => row,
+        Case::Watched(row) => row,
+        Case::Fulfilled => 0,
+    }
+}
+
+// Writes the bytes of a place.
+fn write_place(bytes: &mut [u8], at: usize, case: Case)
+    requires { ⌜ at + 1 < length (now bytes) ⌝ }
+    ensures { λ _. ⌜ now (bytes .exit) ≡ sets (now (bytes .entry)) at (placeBytes case) ⌝ }
+{
+    bytes[at] = case_byte(case);
+    bytes[at + 1] = row_byte(case);
+}
+
+// Writes a board over the front.
+pub fn write_board(bytes: &mut [u8], board: Board)
+    requires { ⌜ recordLength ≤ length (now bytes) ⌝ }
+    ensures { λ _. ⌜ now (bytes .exit) ≡ written board (now (bytes .entry)) ⌝ }
+{
+    let places = board.places;
+    let mut i = 0;
+    while i < PLACES {
+        let place = places[i];
+        let case = place.case;
+        write_place(bytes, PLACE * i, case);
+        i += 1;
+    }
+}

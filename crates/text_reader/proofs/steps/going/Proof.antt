@@ -1,0 +1,16 @@
+-- `text_reader::steps::going` meets its contract.
+-- Assumes nothing.
+use mathlib.Core.Path.{ap, _∙_}
+use borrow.Author.Needs.{needs}
+use Rattle.text_reader.specs.Packed.{progressOf}
+use Rattle.text_reader.proofs.Packing.{packed-going}
+use Rattle.text_reader.proofs.steps.going.Statement.{statement}
+use Rattle.text_reader.proofs.steps.going.Tie as tie
+
+returns : tie.Need-returns
+returns c =
+    let s = c .before in
+    ap progressOf (c .pack .ensures) ∙ packed-going (s .args .at) (s .args .words) (s .args .nodes) (s .pre .0) (s .pre .1) (s .pre .2)
+
+pub going-spec : {M : Type 1} → statement M
+going-spec = tie.close (tie.spec (λ c κs. search needs) returns)
