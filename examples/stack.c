@@ -39,6 +39,9 @@ static const uint8_t wide[44] = {
     3, 0, 0, 0, 0, 3, 1, 0, 0, 0, 12, 32, 0, 0, 0, 23, 0, 0, 2, 0, 23, 0, 1, 2, 0, 15, 0, 3, 4, 0,
 };
 
+static uint8_t tables[LEMONDARTS_MOST_JOINED * LEMONDARTS_TABLE];
+static size_t table_count, tables_length;
+
 static uint8_t text[LEMONDARTS_MOST_TEXT];
 static size_t text_length;
 static uint8_t written[LEMONDARTS_SHEET];
@@ -48,6 +51,9 @@ static void nothing(void) {}
 static void load(void) { answer = lemondarts_load(table, sizeof table); }
 static void compile(void) { answer = lemondarts_compile(sheet, sizeof sheet, out, sizeof out, work, sizeof work, values, LEMONDARTS_VALUES); }
 static void compile_wide(void) { answer = lemondarts_compile(wide, sizeof wide, out, sizeof out, work, sizeof work, values, LEMONDARTS_VALUES); }
+static void join(void) {
+    answer = lemondarts_join(table_count, tables, tables_length, out, sizeof out, work, sizeof work, values, LEMONDARTS_VALUES);
+}
 static void read_text(void) { answer = lemondarts_read_text(text, text_length, actions, 4, written, sizeof written); }
 static void new_board(void) { answer = lemondarts_new_board(record, sizeof record, area, sizeof area); }
 static void put_on(void) { answer = lemondarts_put_on(record, sizeof record, area, sizeof area, 0, table, sizeof table); }
@@ -87,6 +93,22 @@ static void make_table(void) {
     }
 }
 
+/* Tables to join, of so many rows, each over an action of its own: a chain of these in which the last row trips. */
+static void make_tables(size_t count, unsigned action_count, unsigned rows) {
+    unsigned k;
+    tables_length = 0;
+    for (table_count = 0; table_count < count; table_count++) {
+        uint8_t *entries = tables + tables_length + LEMONDARTS_TABLE_HEADER;
+        uint8_t header[LEMONDARTS_TABLE_HEADER] = { LEMONDARTS_ENFORCED, 0, (uint8_t)action_count, 0, (uint8_t)rows, 0, LEMONDARTS_TABLE_HEADER, 0 };
+        memcpy(tables + tables_length, header, sizeof header);
+        for (k = 0; k < rows * action_count; k++) {
+            unsigned row = k / action_count, next = row + 1 < rows ? row + 1 : LEMONDARTS_TRIP;
+            entries[k] = (uint8_t)(k % action_count == table_count ? next : row);
+        }
+        tables_length += sizeof header + rows * action_count;
+    }
+}
+
 static void add(const char *words) {
     memcpy(text + text_length, words, strlen(words));
     text_length += strlen(words);
@@ -115,6 +137,12 @@ int main(void) {
     wrong |= show("load", load, bare, LEMONDARTS_STACK_LOAD, LEMONDARTS_DONE);
     wrong |= show("compile, up to 64 values", compile, bare, LEMONDARTS_STACK_COMPILE, LEMONDARTS_DONE);
     wrong |= show("compile, more values", compile_wide, bare, LEMONDARTS_STACK_COMPILE, LEMONDARTS_TOO_MANY_ROWS);
+    make_tables(2, 2, 8);
+    wrong |= show("join, 64 values", join, bare, LEMONDARTS_STACK_JOIN, LEMONDARTS_DONE);
+    make_tables(2, 2, 32);
+    wrong |= show("join, 1,024 values", join, bare, LEMONDARTS_STACK_JOIN, LEMONDARTS_TOO_MANY_ROWS);
+    make_tables(8, 16, 64);
+    wrong |= show("join, the longest tables", join, bare, LEMONDARTS_STACK_JOIN, LEMONDARTS_TOO_MANY_VALUES);
     wrong |= show("new_board", new_board, bare, LEMONDARTS_STACK_CALL, LEMONDARTS_DONE);
     wrong |= show("put_on", put_on, bare, LEMONDARTS_STACK_LOAD, LEMONDARTS_DONE);
     wrong |= show("action", action, bare, LEMONDARTS_STACK_CALL, LEMONDARTS_DONE);

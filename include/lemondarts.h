@@ -11,7 +11,7 @@
  * - Bytes need no alignment; `values` is aligned as a uint64_t, to 8 bytes, `actions` as a uint16_t, to 2.
  * - Threads: nothing is kept between calls, so calls on different boards and areas may run at once. Calls on one board, or with one work area,
  *   come one after the other: the caller holds a lock.
- * - Stack: compiling takes some 39 KiB, loading and putting on some 3.2 KiB, the others under 1 KiB;
+ * - Stack: compiling and joining take some 39 KiB, loading and putting on some 3.2 KiB, the others under 1 KiB;
  *   reading a text some 33 KiB for the deepest that 1,024 bytes can say, 6.5 KiB for one that gives a sheet.
  *   LEMONDARTS_STACK_.. below is what to plan for; examples/stack.c measures it.
  * - Nothing else is asked of the caller: the contracts of the calls have no precondition.
@@ -33,19 +33,20 @@
  * - PATCH, where neither is so: stack, time, comments.
  */
 #define LEMONDARTS_VERSION_MAJOR 4
-#define LEMONDARTS_VERSION_MINOR 2
-#define LEMONDARTS_VERSION_PATCH 1
-#define LEMONDARTS_VERSION "4.2.1"
+#define LEMONDARTS_VERSION_MINOR 3
+#define LEMONDARTS_VERSION_PATCH 0
+#define LEMONDARTS_VERSION "4.3.0"
 
 /* Lengths. An area may be longer; what stands behind these lengths is not touched. */
 #define LEMONDARTS_RECORD 16     /* a board's record, in bytes */
 #define LEMONDARTS_AREA 8256     /* a board's area, in bytes: 1,032 for each of 8 places */
-#define LEMONDARTS_TABLE 1032    /* the output of compiling, in bytes: the longest table */
-#define LEMONDARTS_WORK 65536    /* the work area of compiling, in bytes */
-#define LEMONDARTS_VALUES 1024   /* the values of compiling, in numbers of 64 bits */
+#define LEMONDARTS_TABLE 1032    /* the output of compiling and joining, in bytes: the longest table */
+#define LEMONDARTS_WORK 65536    /* the work area of compiling and joining, in bytes */
+#define LEMONDARTS_VALUES 1024   /* the values of compiling and joining, in numbers of 64 bits */
 
 /* Stack, in bytes: at most this much in a call, rounded up, without what the caller and an interrupt take. */
 #define LEMONDARTS_STACK_COMPILE 49152 /* lemondarts_compile */
+#define LEMONDARTS_STACK_JOIN 49152    /* lemondarts_join */
 #define LEMONDARTS_STACK_TEXT 40960    /* lemondarts_read_text */
 #define LEMONDARTS_STACK_LOAD 4096     /* lemondarts_load, lemondarts_put_on */
 #define LEMONDARTS_STACK_CALL 1024     /* the other calls */
@@ -57,6 +58,8 @@
 #define LEMONDARTS_MOST_ROWS 64      /* of a table */
 #define LEMONDARTS_MOST_COUNT 60     /* the largest argument of Count and Fulfilling */
 #define LEMONDARTS_MOST_TEXT 1024    /* of the text of a rule, in bytes */
+#define LEMONDARTS_FEWEST_JOINED 2   /* tables of a join */
+#define LEMONDARTS_MOST_JOINED 8     /* tables of a join */
 
 /* A sheet: a header (counts of actions and nodes, offsets of the action list and the node list, total length; 16 bits each, low byte first), an
  * action list (16 bits an action: bit p set where it satisfies proposition p), a node list (five bytes a node: kind, argument, parts a, b, c).
@@ -99,7 +102,7 @@
 
 /* An answer is one number of 64 bits: four fields of 16 bits, lowest first. */
 #define LEMONDARTS_NUMBER(answer) ((unsigned)((uint64_t)(answer) & 65535u))         /* 0 done, 255 denied, else a refusal */
-#define LEMONDARTS_VALUE(answer) ((unsigned)((uint64_t)(answer) >> 16 & 65535u))    /* see each call; of refusals 4 to 9 the node, of 32 the word */
+#define LEMONDARTS_VALUE(answer) ((unsigned)((uint64_t)(answer) >> 16 & 65535u))    /* see each call; of a sheet's 4 to 9 the node, of 32 the word */
 #define LEMONDARTS_ACTIONS(answer) ((unsigned)((uint64_t)(answer) >> 32 & 65535u))  /* a table's or a sheet's number of actions, 1 to 16 */
 #define LEMONDARTS_ROWS(answer) ((unsigned)((uint64_t)(answer) >> 48 & 65535u))     /* a table's number of rows, 1 to 64 */
 #define LEMONDARTS_NODES(answer) ((unsigned)((uint64_t)(answer) >> 48 & 65535u))    /* of a done read_text: the sheet's number of nodes, 1 to 64 */
@@ -113,13 +116,13 @@
 #define LEMONDARTS_PERMITTED(answer) (LEMONDARTS_NUMBER(answer) == LEMONDARTS_DONE)
 #define LEMONDARTS_FULFILS(answer, place) ((LEMONDARTS_VALUE(answer) >> (place) & 1u) != 0) /* of a permitted action, place 0 to 7 */
 
-/* The length in bytes of the table that a done load or compile speaks of. */
+/* The length in bytes of the table that a done load, compile or join speaks of. */
 #define LEMONDARTS_TABLE_LENGTH(answer) ((size_t)LEMONDARTS_TABLE_HEADER + (size_t)LEMONDARTS_ROWS(answer) * LEMONDARTS_ACTIONS(answer))
 
 /* The length in bytes of the sheet that a done read_text wrote. */
 #define LEMONDARTS_SHEET_LENGTH(answer) ((size_t)LEMONDARTS_VALUE(answer))
 
-/* Types, the value of a done load or compile. */
+/* Types, the value of a done load, compile or join. */
 #define LEMONDARTS_ENFORCED 1u /* trips when its policy becomes violated: denies actions */
 #define LEMONDARTS_WATCHED 2u  /* trips when its policy becomes satisfied: is reported fulfilled */
 
@@ -127,41 +130,42 @@
 #define LEMONDARTS_DONE 0u
 #define LEMONDARTS_DENIED 255u           /* do not carry the action out */
 #define LEMONDARTS_BAD_LENGTH 1u         /* sheet under 10 bytes, or its total is not its length: send the whole sheet */
-#define LEMONDARTS_BAD_COUNTS 2u         /* actions not 1 to 16, or nodes not 1 to 64: correct the header or the action list, or split the sheet */
+#define LEMONDARTS_BAD_COUNTS 2u         /* actions not 1 to 16, nodes not 1 to 64, or tables to join not 2 to 8: correct the count, or split the sheet */
 #define LEMONDARTS_BAD_AREAS 3u          /* action or node list misplaced: correct the offsets in the header */
 #define LEMONDARTS_UNKNOWN_KIND 4u       /* the node's kind is unknown: correct the node */
 #define LEMONDARTS_BAD_FIELD 5u          /* the node's part, argument or unused field is wrong: correct the node */
 #define LEMONDARTS_BAD_TYPE 6u           /* a part is of the wrong type, or the last node is no policy: no table can hold a program to this rule */
 #define LEMONDARTS_BOUND_TOO_LARGE 7u    /* a finite bound above 65,534: shorten the rule */
-#define LEMONDARTS_TOO_MANY_VALUES 8u    /* over 1,024 remembered values: simplify the node */
-#define LEMONDARTS_TOO_MANY_ROWS 9u      /* over 64 rows: simplify the node */
-#define LEMONDARTS_MALFORMED 10u         /* table of wrong length, header or entry: compile or send it again */
+#define LEMONDARTS_TOO_MANY_VALUES 8u    /* over 1,024 remembered values: simplify the node, or join fewer tables */
+#define LEMONDARTS_TOO_MANY_ROWS 9u      /* over 64 rows: simplify the node, or join fewer tables */
+#define LEMONDARTS_MALFORMED 10u         /* table of wrong length, header or entry, or bytes behind those to join: compile or send it again */
 #define LEMONDARTS_NOT_CANONICAL 11u     /* rows misnumbered, unmet or alike: compile the sheet again, do not repair the table */
 #define LEMONDARTS_NO_ACTION 12u         /* the action is not in the rules' list: correct the number */
 #define LEMONDARTS_NO_PLACE 13u          /* the place is not below 8: correct the number */
 #define LEMONDARTS_SHORT_AREA 14u        /* a lent area, or the record, is too short: lend the length above */
 #define LEMONDARTS_PLACE_EMPTY 21u       /* nothing to take off */
 #define LEMONDARTS_PLACE_TAKEN 22u       /* take the old table off first, or use another place */
-#define LEMONDARTS_OTHER_ACTIONS 23u     /* the rules on have another number of actions: take them off first */
+#define LEMONDARTS_OTHER_ACTIONS 23u     /* the rules on, or those to join, have another number of actions: use one action list */
 #define LEMONDARTS_BOARD_EMPTY 24u       /* no rule is on: put one on before asking */
 #define LEMONDARTS_BOARD_IMPOSSIBLE 25u  /* record or area was damaged: make a new board and put the tables on again */
 #define LEMONDARTS_TEXT_TOO_LONG 31u     /* a text over 1,024 bytes: shorten it, or split the rule */
 #define LEMONDARTS_BAD_TEXT 32u          /* the text is not in the language: correct this word, or complete the rule */
 #define LEMONDARTS_TOO_MANY_NODES 33u    /* a text of over 64 nodes: shorten it, or split the rule */
+#define LEMONDARTS_WATCHED_TABLE 34u     /* a watched table among those to join: leave it out, and put it on a place of its own */
 
 /* A short text for the number of an answer, for logs. */
 static inline const char *lemondarts_refusal_text(unsigned number) {
     switch (number) {
     case LEMONDARTS_DONE: return "done";
     case LEMONDARTS_BAD_LENGTH: return "the sheet is under 10 bytes, or its total is not its length";
-    case LEMONDARTS_BAD_COUNTS: return "the sheet has not 1 to 16 actions and 1 to 64 nodes";
+    case LEMONDARTS_BAD_COUNTS: return "not 1 to 16 actions, not 1 to 64 nodes, or not 2 to 8 tables to join";
     case LEMONDARTS_BAD_AREAS: return "the sheet's action list or node list is misplaced";
     case LEMONDARTS_UNKNOWN_KIND: return "the node's kind is unknown";
     case LEMONDARTS_BAD_FIELD: return "a part, the argument or an unused field of the node is wrong";
     case LEMONDARTS_BAD_TYPE: return "a part is of the wrong type, or the last node is no policy";
     case LEMONDARTS_BOUND_TOO_LARGE: return "the node's bound is above 65534";
-    case LEMONDARTS_TOO_MANY_VALUES: return "the node remembers over 1024 values";
-    case LEMONDARTS_TOO_MANY_ROWS: return "the node needs over 64 rows";
+    case LEMONDARTS_TOO_MANY_VALUES: return "the node, or the join, remembers over 1024 values";
+    case LEMONDARTS_TOO_MANY_ROWS: return "the node, or the join, needs over 64 rows";
     case LEMONDARTS_MALFORMED: return "the table's length, header or an entry is wrong";
     case LEMONDARTS_NOT_CANONICAL: return "the table's rows are misnumbered, not all met, or two are alike";
     case LEMONDARTS_NO_ACTION: return "the action is not in the rules' list";
@@ -169,12 +173,13 @@ static inline const char *lemondarts_refusal_text(unsigned number) {
     case LEMONDARTS_SHORT_AREA: return "a lent area is too short";
     case LEMONDARTS_PLACE_EMPTY: return "the place is empty";
     case LEMONDARTS_PLACE_TAKEN: return "the place is taken";
-    case LEMONDARTS_OTHER_ACTIONS: return "the rules on have another number of actions";
+    case LEMONDARTS_OTHER_ACTIONS: return "the rules on, or those to join, have another number of actions";
     case LEMONDARTS_BOARD_EMPTY: return "no rule is on";
     case LEMONDARTS_BOARD_IMPOSSIBLE: return "the board's record or area is damaged";
     case LEMONDARTS_TEXT_TOO_LONG: return "the text is over 1024 bytes";
     case LEMONDARTS_BAD_TEXT: return "the word does not fit, or the text ends too soon";
     case LEMONDARTS_TOO_MANY_NODES: return "the text has over 64 nodes";
+    case LEMONDARTS_WATCHED_TABLE: return "a watched table is among those to join";
     case LEMONDARTS_DENIED: return "denied";
     default: return "unknown number";
     }
@@ -199,6 +204,19 @@ uint64_t lemondarts_load(const uint8_t *table, size_t table_len);
  */
 uint64_t lemondarts_compile(const uint8_t *sheet, size_t sheet_len, uint8_t *out, size_t out_len,
                             uint8_t *work, size_t work_len, uint64_t *values, size_t values_len);
+
+/* Joins tables: one that denies exactly where at least one of them denies.
+ * Reads `tables`, any bytes: `count` tables, 2 to 8, one behind the other, each as long as its own header says (8 + rows x actions bytes). They
+ * are enforced and have one number of actions. `out`, `work` and `values` are as for lemondarts_compile.
+ * Done: the table is at the front of `out`, LEMONDARTS_TABLE_LENGTH bytes, and what stands behind it is unchanged; the value is
+ * LEMONDARTS_ENFORCED, with ACTIONS and ROWS. It is a table like any other: it may be put on, or joined again. The order of the tables, and whether
+ * some of them were joined before, make no difference to its bytes. Refused: `out` is unchanged. The first refusal in the order 14; 2; table by
+ * table 10, 11, 34; 10 for bytes behind the last table; 23; 8 (over 1,024 tuples of their rows occur); 9 (over 64 rows). The value is 0.
+ * `work` and `values` may hold anything. On return they are zero over the lengths above, and unchanged where the answer is 14.
+ * A denial no longer says which of the rules denied: put tables on places of their own where that is to be told.
+ */
+uint64_t lemondarts_join(size_t count, const uint8_t *tables, size_t tables_length, uint8_t *out, size_t out_length,
+                         uint8_t *work, size_t work_length, uint64_t *values, size_t values_length);
 
 /* Reads a rule typed as text, and writes its sheet.
  * Reads `text`, any bytes, and `actions`, for each action the set of propositions that it satisfies, aligned to 2 bytes. `sheet` is 362 bytes or
@@ -232,7 +250,7 @@ uint64_t lemondarts_read_text(const uint8_t *text, size_t text_length, const uin
 uint64_t lemondarts_new_board(uint8_t *record, size_t record_len, uint8_t *area, size_t area_len);
 
 /* Puts a table on an empty place, starting at row 0. Reads record, area and `table`, any bytes; writes the record and the place's 1,032 bytes.
- * `table` may be the output of lemondarts_compile with its length given by LEMONDARTS_TABLE_LENGTH, and may not lie in `area`.
+ * `table` may be the output of lemondarts_compile or lemondarts_join with its length given by LEMONDARTS_TABLE_LENGTH, and may not lie in `area`.
  * Done, or the first of 14, 13, 25, 22, 10, 11, 23.
  */
 uint64_t lemondarts_put_on(uint8_t *record, size_t record_len, uint8_t *area, size_t area_len, size_t place, const uint8_t *table, size_t table_len);

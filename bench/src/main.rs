@@ -1,9 +1,10 @@
 //! Times of the library's calls, as ratios to the reference in the same run; of actions also to a
 //! plain scan of the bytes that the check of the board has to read, and to the same call written by
-//! hand in C, plain and with SSE2; of reading a text also to compiling its sheet; of minimisation to
-//! OpenFst. Argument: the program built from minimise.cc, if there is one.
+//! hand in C, plain and with SSE2; of reading a text also to compiling its sheet; of minimisation and of
+//! joining to OpenFst. Arguments: the programs built from minimise.cc and intersect.cc, if there are any.
 
 mod by_hand;
+mod joins;
 #[allow(dead_code)] // not every call is timed
 #[path = "../../tests/fuzz/src/library.rs"]
 mod library;
@@ -274,9 +275,12 @@ fn main() {
 
     println!("\nMinimisation, microseconds for all machines of the sheets together. The library has no call");
     println!("for it alone: its column is the whole compilation.\n");
-    let program = std::env::args().nth(1);
+    let mut programs = std::env::args().skip(1);
+    let program = programs.next();
     openfst::header();
     openfst::compare("20 seeded sheets, 64 nodes, 16 actions", program.as_deref(), &seeded);
     openfst::compare("1,022 values, 25 rows", program.as_deref(), &[many_values]);
     openfst::compare("1,024 values, refused 9", program.as_deref(), &[all_values]);
+
+    joins::all(programs.next().as_deref());
 }

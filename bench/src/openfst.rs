@@ -70,13 +70,7 @@ fn by_openfst(program: &str, machines: &[Machine]) -> f64 {
         }
         text.push('\n');
     }
-    let mut child =
-        Command::new(program).stdin(Stdio::piped()).stdout(Stdio::piped()).spawn().expect("the program of minimise.cc");
-    let mut input = child.stdin.take().expect("a pipe");
-    let writer = std::thread::spawn(move || input.write_all(text.as_bytes()).expect("the machines are read"));
-    let output = child.wait_with_output().expect("an output").stdout;
-    writer.join().expect("all is written");
-    let output = String::from_utf8(output).expect("text");
+    let output = output_of(program, text);
     assert_eq!(output.lines().count(), machines.len());
     let mut total = 0.0;
     for (line, machine) in output.lines().zip(machines) {
@@ -85,6 +79,18 @@ fn by_openfst(program: &str, machines: &[Machine]) -> f64 {
         assert_eq!(states.parse(), Ok(states_left(machine)), "OpenFst and the reference differ");
     }
     total
+}
+
+/// What one of the programs for OpenFst writes of an input.
+pub fn output_of(program: &str, text: String) -> String {
+    let child = Command::new(program).stdin(Stdio::piped()).stdout(Stdio::piped()).spawn();
+    let mut child = child.expect("the program of minimise.cc or intersect.cc");
+    let mut input = child.stdin.take().expect("a pipe");
+    let writer = std::thread::spawn(move || input.write_all(text.as_bytes()).expect("the machines are read"));
+    let output = child.wait_with_output().expect("an output");
+    writer.join().expect("all is written");
+    assert!(output.status.success(), "{program} ends with {}", output.status);
+    String::from_utf8(output.stdout).expect("text")
 }
 
 /// The states that OpenFst leaves: it drops those that never trip, and has one for the trip.

@@ -1,11 +1,12 @@
-//! The library's seven calls on lent areas, answered by the reference. An answer is one number of
+//! The library's eight calls on lent areas, answered by the reference. An answer is one number of
 //! 64 bits: number, value, actions, rows (of a text: nodes), 16 bits each from the lowest.
 
 use crate::board::{Board, Verdict};
 use crate::table::{self, Table, LARGEST};
 use crate::text::OUTPUT;
+use crate::{at, Refusal};
 
-/// Lengths of the compiler's work areas.
+/// Lengths of the work areas of compiling and joining.
 pub const WORK: usize = 65_536;
 pub const VALUES: usize = 1024;
 /// The number of a denied action.
@@ -43,16 +44,25 @@ pub fn load(bytes: &[u8]) -> u64 {
 }
 
 pub fn compile(sheet: &[u8], out: &mut [u8], work: &mut [u8], values: &mut [u64]) -> u64 {
+    make(out, work, values, || crate::compile(sheet))
+}
+
+pub fn join(count: usize, tables: &[u8], out: &mut [u8], work: &mut [u8], values: &mut [u64]) -> u64 {
+    make(out, work, values, || crate::join(count, tables).map_err(|number| at(number, 0)))
+}
+
+/// Writes the table that is made, or answers the refusal; 14 before anything is made.
+fn make(out: &mut [u8], work: &mut [u8], values: &mut [u64], made: impl FnOnce() -> Result<Vec<u8>, Refusal>) -> u64 {
     if out.len() < LARGEST || work.len() < WORK || values.len() < VALUES {
         return answer(14, 0);
     }
     work[..WORK].fill(0);
     values[..VALUES].fill(0);
-    match crate::compile(sheet) {
+    match made() {
         Err(refusal) => answer(refusal.number, refusal.spot),
         Ok(bytes) => {
             out[..bytes.len()].copy_from_slice(&bytes);
-            accepted(table::shape(&bytes).expect("a compiled table passes 10"))
+            accepted(table::shape(&bytes).expect("a table that is made passes 10"))
         }
     }
 }

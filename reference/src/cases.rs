@@ -4,6 +4,7 @@
 pub mod counted;
 pub mod histories;
 pub mod house;
+pub mod joins;
 pub mod sheets;
 pub mod tables;
 pub mod texts;
@@ -22,7 +23,7 @@ pub enum Stated {
     Refused(u8, u8),
 }
 
-/// The areas that the compiler is lent: as long as it asks, or one of them shorter by one.
+/// The areas that compiling and joining are lent: as long as it asks, or one of them shorter by one.
 #[derive(Clone, Copy, Debug, PartialEq, Eq)]
 pub enum Lent {
     Whole = 0,

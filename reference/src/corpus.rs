@@ -1,7 +1,8 @@
-//! The corpus: the inputs of the programs second_cases, load_cases, board_cases and text_cases, each
-//! with the answer expected, and what the programs print. README.md describes its bytes.
+//! The corpus: the inputs of the programs second_cases, load_cases, board_cases, text_cases and join_cases,
+//! each with the answer expected, and what the programs print. README.md describes its bytes.
 
 pub mod calls;
+pub mod joins;
 pub mod sheets;
 pub mod tables;
 pub mod texts;
@@ -18,10 +19,16 @@ pub struct Corpus {
 }
 
 /// All of them.
-pub fn all() -> [Corpus; 4] {
+pub fn all() -> [Corpus; 5] {
     let sheets = sheets::all();
     let pool = sheets::tables_of(&sheets);
-    [sheets::corpus(&sheets), tables::corpus(&pool), calls::corpus(&pool), texts::corpus(&texts::all())]
+    [
+        sheets::corpus(&sheets),
+        tables::corpus(&pool),
+        calls::corpus(&pool),
+        texts::corpus(&texts::all()),
+        joins::corpus(&joins::all(&pool)),
+    ]
 }
 
 /// The longest name of a record.

@@ -30,6 +30,27 @@ pub unsafe extern "C" fn lemondarts_compile(
 }
 
 #[no_mangle]
+pub unsafe extern "C" fn lemondarts_join(
+    count: usize,
+    tables: *const u8,
+    tables_length: usize,
+    out: *mut u8,
+    out_length: usize,
+    work: *mut u8,
+    work_length: usize,
+    values: *mut u64,
+    values_length: usize,
+) -> u64 {
+    calls::join(
+        count,
+        from_raw_parts(tables, tables_length),
+        from_raw_parts_mut(out, out_length),
+        from_raw_parts_mut(work, work_length),
+        from_raw_parts_mut(values, values_length),
+    )
+}
+
+#[no_mangle]
 pub unsafe extern "C" fn lemondarts_read_text(
     text: *const u8,
     text_length: usize,

@@ -1,5 +1,6 @@
-//! Inputs of every sort, drawn: sheets, tables and texts, and ways to damage bytes.
+//! Inputs of every sort, drawn: sheets, tables, joins and texts, and ways to damage bytes.
 
+pub mod joins;
 pub mod sheets;
 pub mod tables;
 pub mod texts;

@@ -11,6 +11,7 @@ pub mod corpus;
 mod exports;
 pub mod generate;
 pub mod inputs;
+pub mod join;
 pub mod machine;
 pub mod meaning;
 pub mod sheet;
@@ -21,6 +22,7 @@ pub mod values;
 
 pub use board::{Board, Verdict};
 pub use compile::compile;
+pub use join::join;
 pub use table::load;
 pub use text::read_text;
 

@@ -1,6 +1,6 @@
 //! The corpus in the repository is what the command writes, and covers what it is for.
 
-use reference::corpus::{all, sheets, texts};
+use reference::corpus::{all, joins, sheets, texts};
 use reference::sheet::Sheet;
 use std::collections::HashSet;
 use std::path::Path;
@@ -56,4 +56,21 @@ fn texts_cover_kinds_and_answers() {
     assert!(records
         .iter()
         .all(|record| record.text.len() <= 3000 && record.output <= 400 && record.actions.len() <= 17));
+}
+
+/// Every answer is there at least eight times, and joins of every count that is in range give tables.
+#[test]
+fn joins_cover_counts_and_answers() {
+    let records = joins::all(&sheets::tables_of(&sheets::all()));
+    for number in [0, 2, 8, 9, 10, 11, 14, 23, 34] {
+        let with = records.iter().filter(|record| record.answer[0] == number).count();
+        assert!(with >= 8, "answer {number}: {with}");
+    }
+    for count in 2..=8 {
+        let tables = records.iter().filter(|record| record.count == count && record.answer[0] == 0).count();
+        assert!(tables >= 3, "count {count}: {tables}");
+    }
+    let several = records.iter().filter(|record| record.table.len() > 8 && record.table[4] > 4).count();
+    assert!(several >= 10, "{several}");
+    assert!(records.iter().all(|record| record.tables.len() <= 8300));
 }

@@ -1,5 +1,6 @@
 //! The reader of texts against stated answers, against the grammar as it is stated, and against the house rules' sheets.
 
+use reference::cases::house::House;
 use reference::cases::texts::{all, Reading, TextCase};
 use reference::cases::{house, table_bytes, type_byte, Stated};
 use reference::generate::Random;
@@ -8,6 +9,9 @@ use reference::sheet::{Sheet, Type};
 use reference::trees::{ROASTERY, TWO};
 use reference::{calls, compile, read_text, Refusal};
 use std::collections::{BTreeMap, BTreeSet, HashMap};
+
+/// The file of the house rules that are joined.
+const JOINED: &str = "the_seven_rules";
 
 /// The answer's four fields and the output behind the call, which was full of this byte.
 const BEFORE: u8 = 170;
@@ -98,7 +102,14 @@ fn house_rules() {
     let folder = concat!(env!("CARGO_MANIFEST_DIR"), "/../examples/house");
     let files = std::fs::read_dir(folder).unwrap().map(|file| file.unwrap().file_name().into_string().unwrap());
     let rules: BTreeSet<String> = files.filter(|name| name.ends_with(".rule")).collect();
-    assert_eq!(rules, house::RULES.iter().chain(others).map(|house| format!("{}.rule", house.name)).collect());
+    let named = house::RULES.iter().chain(others).map(|house| house.name).chain([JOINED]);
+    assert_eq!(rules, named.map(|name| format!("{name}.rule")).collect());
+    // The enforced rules in one file: the action list of each, then their texts in the same order, parted by lines `---`.
+    let joined = std::fs::read_to_string(format!("{folder}/{JOINED}.rule")).unwrap();
+    let (actions, texts) = joined.split_once('\n').unwrap();
+    let enforced = &house::RULES[..7];
+    assert_eq!(texts.split("---\n").collect::<Vec<_>>(), enforced.iter().map(House::text).collect::<Vec<_>>());
+    assert!(enforced.iter().all(|house| house.rule.lines().next() == Some(actions)));
 }
 
 /// A drawn policy's words are read as that policy: its nodes in their order, none shared, of the right types.

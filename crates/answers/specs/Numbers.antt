@@ -2,7 +2,7 @@
 -- Assumes nothing.
 use mathlib.Core.Path.{_≡_}
 use mathlib.Core.Bool.{Bool, true, false}
-use mathlib.Core.List.{List, [], _∷_}
+use mathlib.Core.List.{[], _∷_}
 use Prim.Native.Nat.{ℕ}
 use Rattle.base.specs.Fields.{packFields}
 use Rattle.table.specs.Answer.{Answer, accepted, refused}
@@ -20,7 +20,7 @@ packedReply (denied place) = pack 255 place 0 0
 packedReply (input number spot) = pack number spot 0 0
 packedReply (state number) = pack number 0 0 0
 
--- The loader's and the compiler's answer: for a table its type, actions and rows; for a refusal its number and spot.
+-- The answer of the loader, of compiling and of joining: for a table its type, actions and rows; for a refusal its number and spot.
 abbrev pub packedAnswer : Answer → ℕ
 packedAnswer (accepted type actions rows) = pack 0 type actions rows
 packedAnswer (refused number spot) = pack number spot 0 0

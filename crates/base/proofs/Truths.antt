@@ -1,6 +1,6 @@
--- What it says that two tests pass, or one of two.
+-- What it says that two tests pass, or one of two, or neither.
 -- Assumes nothing.
-use mathlib.Core.Path.{_≡_, refl}
+use mathlib.Core.Path.{_≡_, refl, sym}
 use mathlib.Core.Bool.{Bool, true, false, _&&_, _||_}
 use mathlib.Core.Logic.{_⊎_, inl, inr}
 use Prim.Native.Nat.{ℕ}
@@ -24,3 +24,10 @@ pub either-true : (a b : Bool) → (a ≡ true) ⊎ (b ≡ true) → a || b ≡ 
 either-true true b h = refl
 either-true false b (inl e) = not-true e
 either-true false b (inr e) = e
+
+pub or-false : (a b : Bool) → a || b ≡ false → (a ≡ false) × (b ≡ false)
+or-false true b e = not-true (sym e)
+or-false false b e = (refl, e)
+
+pub neither-true : {a b : Bool} → a ≡ false → b ≡ false → a || b ≡ false
+neither-true p q = rw (p, q)

@@ -2,11 +2,10 @@
 -- Assumes nothing.
 use mathlib.Core.Path.{_≡_, refl, sym, _∙_, ap, subst}
 use mathlib.Core.List.{List, [], _++_}
-use Prim.Native.Nat.{ℕ, suc, _+_, _*_, _-_, _≤_, _<_}
+use Prim.Native.Nat.{ℕ, _+_, _*_, _-_, _≤_, _<_}
 use native.Mathlib.Nat.{mul-le-mul}
 use native.Mathlib.Omega.{arith}
 use lib.ListN.{length, take, drop}
-use lib.Seq.{take-take}
 use borrow.Rule.Slice.PartMut.{midOf, mid-len}
 use Rattle.trace.specs.declared.Mode.{Mode}
 use Rattle.automaton.specs.Minimal.{RowsOf}
@@ -16,14 +15,16 @@ use Rattle.syntax.specs.Typed.{SoundSheet}
 use Rattle.syntax.specs.declared.Sheet.{Sheet}
 use Rattle.syntax.specs.declared.TypedNode.{TypedNode}
 use Rattle.rules.specs.Rules.{slotAt}
+use Rattle.machine_rows.proofs.Slots.{slot-front}
 use Rattle.rule_rows.specs.Lists.{AllBuildable, BuiltTo, LastRows, ValuesOver, RowsOver}
 use Rattle.node_rules.specs.Nodes.{tripsNode, Tables}
 use Rattle.node_rules.specs.Lowering.{rulesOf}
 use Rattle.node_rules.proofs.NodeRules.{policy-right}
 use Rattle.node_rules.proofs.Facts.{rule-facts}
 use Rattle.compiler.specs.Limits.{Built}
-use Rattle.compiler.specs.Compiles.{tableBytes, PolicyNode, Builds, builds}
-use Rattle.compiler.specs.Calling.{Lent, BuildsTo}
+use Rattle.making.specs.Making.{tableBytes, Lent}
+use Rattle.compiler.specs.Compiles.{PolicyNode, Builds, builds}
+use Rattle.compiler.specs.Calling.{BuildsTo}
 use Rattle.compiler.proofs.BuiltNodes as nodes
 
 module _ {mode : Mode} {sheet : Sheet} {types : List TypedNode} (right : SoundSheet mode sheet types) (valueLimit rowLimit : ℕ) where
@@ -47,7 +48,7 @@ module _ {mode : Mode} {sheet : Sheet} {types : List TypedNode} (right : SoundSh
   -- a refusal leaves the output as it was
   refuses : {number spot : ℕ} (out : List ℕ) → Builds mode sheet types valueLimit rowLimit (refused number spot) []
       → BuildsTo mode sheet types valueLimit rowLimit (refused number spot) out out
-  refuses out b = record { written = []; builds = b; front = refl }
+  refuses out b = record { written = []; gives = b; front = refl }
 
   module _ (small : rowLimit ≤ 64) (work out : List ℕ) where
     pub values-over : (n : ℕ) → ValuesOver (rulesOf sheet types) (sheet .count) (sheet .actions) valueLimit rowLimit n work
@@ -108,10 +109,7 @@ module _ {mode : Mode} {sheet : Sheet} {types : List TypedNode} (right : SoundSh
       part-fits h g = omega (arith, mid-len (last * 1024) (last * 1024 + count * A) work (part-inside h), size-small, g)
 
       entries-are : part ≡ tables last
-      entries-are =
-          let k = count * A in
-          let e : last * 1024 + k - last * 1024 ≡ k = omega arith in
-          ap (λ (x : ℕ). take x (drop (last * 1024) work)) e ∙ sym (take-take k 1024 (drop (last * 1024) work) (omega (arith, size-small))) ∙ same .1
+      entries-are = slot-front last (count * A) work size-small ∙ same .1
 
       pub table-written : (behind : List ℕ) → behind ≡ tableBytes (modeNumber mode) A count part ++ drop (8 + length part) out
           → BuildsTo mode sheet types valueLimit rowLimit (accepted (modeNumber mode) A count) out behind
@@ -120,7 +118,7 @@ module _ {mode : Mode} {sheet : Sheet} {types : List TypedNode} (right : SoundSh
           subst (λ (k : ℕ). BuildsTo mode sheet types valueLimit rowLimit (accepted (modeNumber mode) A k) out behind) (sym (same .0))
           (record {
             written = tableBytes (modeNumber mode) A (own .rows) (tables last);
-            builds = builds tables (nodes.built-before right valueLimit rowLimit small (sheet .count) (omega arith) work built) own;
+            gives = builds tables (nodes.built-before right valueLimit rowLimit small (sheet .count) (omega arith) work built) own;
             front =
                 e ∙ ap (λ (l : List ℕ). tableBytes (modeNumber mode) A count l ++ drop (8 + length l) out) entries-are
                 ∙ ap (λ (k : ℕ). tableBytes (modeNumber mode) A k (tables last) ++ drop (8 + length (tables last)) out) (same .0)

@@ -1,10 +1,7 @@
 pub mod Passed
-pub mod PartRows
 pub mod SameCodes
 pub mod NodeRuns
 pub mod SlotTables
 pub mod BuiltNodes
 pub mod Answers
 pub mod Judgements
-pub mod LentAreas
-pub mod WrittenTable

@@ -1,10 +1,10 @@
 -- A policy node over the rows of earlier nodes: its machine on numbers, as it is built, trips as its policy does, and leads to the number of what
 -- the node remembers. Here policies enter: what is built is stated of machines alone.
 -- Assumes nothing.
-use mathlib.Core.Path.{_≡_, refl, sym, _∙_, ap}
-use mathlib.Core.Bool.{Bool, true, false}
+use mathlib.Core.Path.{_≡_, sym, _∙_, ap}
+use mathlib.Core.Bool.{Bool, false}
 use mathlib.Core.List.{List}
-use Prim.Native.Nat.{ℕ, _≤_, _<_}
+use Prim.Native.Nat.{ℕ, _≤_}
 use Rattle.trace.specs.Trace.{Sequence, go, run}
 use Rattle.automaton.specs.Minimal.{RowsOf}
 use Rattle.trace.specs.declared.Mode.{Mode}
@@ -14,7 +14,7 @@ use Rattle.policy.specs.Rule.{Rule, onParts, ruleOf, ruleTrips}
 use Rattle.policy.specs.Parts.{AllParts}
 use Rattle.policy.specs.Trips.{tripsPolicy, Typed}
 use Rattle.policy.specs.Agree.{Agree}
-use Rattle.policy.specs.Value.{Part, Value, partTrips, start}
+use Rattle.policy.specs.Value.{Part, partTrips, start}
 use Rattle.policy.specs.Closed.{Closed, answer}
 use Rattle.policy.proofs.Rules.{rule-trips}
 use Rattle.policy.proofs.Congruent.{rule-congruent}
@@ -37,7 +37,7 @@ use Rattle.rules.proofs.RuleParts.{all-map, all-onto, on-parts-agree, count-on}
 use Rattle.node_rules.specs.Nodes.{tripsNode, nodeRule, Tables, partOf, ruleOn, rememberedAt}
 use Rattle.node_rules.proofs.NodeRules.{RightRule}
 use Rattle.node_rules.proofs.Facts.{NodeFacts}
-use Rattle.compiler.proofs.PartRows.{rows-closed}
+use Rattle.machine_rows.proofs.PartRows.{rows-closed}
 use Rattle.compiler.proofs.SameCodes.{same-codes}
 
 -- Node i has its rows, at most 64 of them.

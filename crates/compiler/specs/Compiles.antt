@@ -1,11 +1,12 @@
 -- What compiling a sheet gives: one way out a line, in the order of docs/FORMATS.md, "The order of checks".
 -- Assumes nothing.
 use mathlib.Core.Path.{_≡_}
-use mathlib.Core.List.{List, [], _∷_}
+use mathlib.Core.List.{List, []}
 use Prim.Native.Nat.{ℕ, _-_, _<_}
 use Rattle.trace.specs.declared.Mode.{Mode}
 use Rattle.policy.specs.declared.Bound.{Bound}
 use Rattle.table.specs.Answer.{Answer, accepted, refused, modeNumber}
+use Rattle.making.specs.Making.{tableBytes}
 use Rattle.syntax.specs.Types.{typeAt}
 use Rattle.syntax.specs.Faults.{numberOf, spotOf}
 use Rattle.syntax.specs.Typed.{faulty, sound}
@@ -16,10 +17,6 @@ use Rattle.syntax.specs.declared.NodeType.the-variants.{Policy}
 use Rattle.sheet.specs.Judge.{judge}
 use Rattle.node_rules.specs.Nodes.{Tables}
 use Rattle.compiler.specs.Limits.{OverValues, OverRows, Built}
-
--- The bytes of a table.
-abbrev pub tableBytes : (type actions rows : ℕ) → List ℕ → List ℕ
-tableBytes type actions rows entries = type ∷ 0 ∷ actions ∷ 0 ∷ rows ∷ 0 ∷ 8 ∷ 0 ∷ entries
 
 -- Node n is a policy.
 pub record PolicyNode (types : List TypedNode) (n : ℕ) : Type 0 where

@@ -1,6 +1,7 @@
 // The public call.
 use crate::Compiled;
-use crate::output::write_table;
+use making::long_enough;
+use making::write_table;
 use rule_rows::AllBuilt;
 use sheet::SheetFound;
 use syntax::Sheet;
@@ -10,7 +11,8 @@ ghost use mathlib.Core.Path.{_≡_};
 ghost use Prim.Native.Nat.{_≤_};
 ghost use lib.ListN.{length};
 ghost use Rattle.syntax.specs.Typed.{SoundSheet};
-ghost use Rattle.compiler.specs.Calling.{answerOf, Lent, Zeroed, BuildsTo, CompilesTo, CompilesInto};
+ghost use Rattle.making.specs.Making.{Lent, Zeroed};
+ghost use Rattle.compiler.specs.Calling.{answerOf, BuildsTo, CompilesTo, CompilesInto};
 
 // Builds the rows of a sound sheet's nodes, and writes the table of the last one.
 fn build_table(
@@ -89,14 +91,8 @@ fn compile_in(sheet: &[u8], out: &mut [u8], work: &mut [u8], values: &mut [u64])
 pub fn compile(sheet: &[u8], out: &mut [u8], work: &mut [u8], values: &mut [u64]) -> Compiled
     ensures { λ r. ⌜ CompilesInto (now (sheet .entry)) (now (out .entry)) (now (work .entry)) (now (values .entry)) (answerOf r) (now (out .exit)) (now (work .exit)) (now (values .exit)) ⌝ }
 {
-    if out.len() < 1032 {
-        return Compiled::ShortArea;
+    if long_enough(out.len(), work.len(), values.len()) {
+        return compile_in(sheet, out, &mut work[..65536], &mut values[..1024]);
     }
-    if work.len() < 65536 {
-        return Compiled::ShortArea;
-    }
-    if values.len() < 1024 {
-        return Compiled::ShortArea;
-    }
-    compile_in(sheet, out, &mut work[..65536], &mut values[..1024])
+    Compiled::ShortArea
 }

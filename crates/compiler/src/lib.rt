@@ -1,6 +1,5 @@
 // The compiler: from a rule sheet to its table. Definitions of what it gives are in specs/Calling.antt.
 mod call;
-mod output;
 
 pub use call::compile;
 use syntax::Fault;

@@ -2,20 +2,21 @@
 -- when the sheet is well formed, well typed and inside 1,024 values and 64 rows; an answer that is no table leaves the output as it was; and
 -- demand 3 of what two calls write.
 -- Assumes nothing.
-use mathlib.Core.Path.{_≡_, refl, ap, sym, _∙_}
-use mathlib.Core.List.{List, [], _++_}
+use mathlib.Core.Path.{_≡_, refl, sym, _∙_}
+use mathlib.Core.List.{List, []}
 use mathlib.Core.Logic.{_↔_}
 use Prim.Native.Nat.{ℕ, _+_, _*_}
 use native.Mathlib.Omega.{arith}
-use lib.ListN.{length, take, drop}
-use lib.Seq.{take-at}
+use lib.ListN.{length, take}
 use Rattle.trace.specs.declared.Mode.{Mode}
 use Rattle.table.specs.Answer.{Answer, accepted, refused}
 use Rattle.syntax.specs.declared.Sheet.{Sheet}
 use Rattle.syntax.specs.declared.TypedNode.{TypedNode}
-use Rattle.compiler.specs.Compiles.{Builds, stops, builds, Compiles, faulted, passes}
-use Rattle.compiler.specs.Calling.{Areas, CompilesInto, short, compiles}
-use Rattle.compiler_laws.specs.Demands.{ReadAs, InsideLimits, NoRefusal, IsTable, OneActionList, SameSatisfied}
+use Rattle.compiler.specs.Compiles.{Builds, stops, Compiles, faulted, passes}
+use Rattle.making.specs.Making.{IsTable, Areas, short, makes}
+use Rattle.making.proofs.Calls.{made-determined, refused-leaves, front-made}
+use Rattle.compiler.specs.Calling.{CompilesInto}
+use Rattle.compiler_laws.specs.Demands.{ReadAs, InsideLimits, NoRefusal, OneActionList, SameSatisfied}
 use Rattle.compiler_laws.proofs.Outcome.{compiles-determined}
 use Rattle.compiler_laws.proofs.CompiledTable.{compiled-as}
 use Rattle.compiler_laws.proofs.Demands.{table-exactly-inside, table-exactly-unless-refused, same-table-exactly}
@@ -24,24 +25,19 @@ module _ {bytes out work values : List ℕ} where
   -- The contract of the call determines the answer and every byte of the lent areas.
   pub call-determined : {x y : Answer} {o p w q v r : List ℕ} → CompilesInto bytes out work values x o w v → CompilesInto bytes out work values y p q r
       → (x ≡ y) × (o ≡ p) × (w ≡ q) × (v ≡ r)
-  call-determined (short h) (short g) = (refl, refl, refl, refl)
-  call-determined (short h) (compiles a x t c) = absurd (h a)
-  call-determined (compiles a x t c) (short h) = absurd (h a)
-  call-determined (compiles a x t c) (compiles b y u d) =
-      let e = compiles-determined bytes 1024 64 c d in
-      (e .0, ap (λ (l : List ℕ). l ++ drop (length l) out) (e .1), refl, refl)
+  call-determined = made-determined (Compiles bytes 1024 64) (λ x y t u c d. compiles-determined bytes 1024 64 c d)
 
   -- Where the lent areas are long enough, the answer is a table exactly when the sheet is well formed, well typed and inside the limits.
   pub call-compiles-exactly : Areas out work values → {answer : Answer} {out' work' values' : List ℕ} → CompilesInto bytes out work values answer out' work' values'
       → IsTable answer ↔ InsideLimits bytes 1024 64
   call-compiles-exactly areas (short h) = absurd (h areas)
-  call-compiles-exactly areas (compiles a x t c) = table-exactly-inside bytes 1024 64 c
+  call-compiles-exactly areas (makes a x t c) = table-exactly-inside bytes 1024 64 c
 
   -- That is, exactly when none of the refusals 1 to 9 applies.
   pub call-table-exactly : Areas out work values → {answer : Answer} {out' work' values' : List ℕ} → CompilesInto bytes out work values answer out' work' values'
       → IsTable answer ↔ NoRefusal bytes 1024 64
   call-table-exactly areas (short h) = absurd (h areas)
-  call-table-exactly areas (compiles a x t c) = table-exactly-unless-refused bytes 1024 64 c
+  call-table-exactly areas (makes a x t c) = table-exactly-unless-refused bytes 1024 64 c
 
 -- a refusal has no table
 built-none : {mode : Mode} {sheet : Sheet} {types : List TypedNode} {valueLimit rowLimit number spot : ℕ} {written : List ℕ}
@@ -55,8 +51,7 @@ compiled-none (passes mode sheet types j answer written b) = built-none b
 -- An answer that is no table leaves the output as it was.
 pub refusal-leaves-output : {bytes out work values out' work' values' : List ℕ} {number spot : ℕ}
     → CompilesInto bytes out work values (refused number spot) out' work' values' → out' ≡ out
-refusal-leaves-output (short h) = refl
-refusal-leaves-output {out = out} (compiles a answer written c) = ap (λ (l : List ℕ). l ++ drop (length l) out) (compiled-none c)
+refusal-leaves-output {bytes} = refused-leaves (Compiles bytes 1024 64) (λ t c. compiled-none c)
 
 -- The table is the front of the output, as long as its counts say.
 table-size : (bytes written : List ℕ) {type actions rows : ℕ} → Compiles bytes 1024 64 (accepted type actions rows) written → length written ≡ 8 + rows * actions
@@ -65,7 +60,7 @@ table-size bytes written c = let t = compiled-as bytes 1024 64 (omega arith) c .
 pub table-in-output : {bytes out work values out' work' values' : List ℕ} {type actions rows : ℕ}
     → CompilesInto bytes out work values (accepted type actions rows) out' work' values'
     → (written : List ℕ) × Compiles bytes 1024 64 (accepted type actions rows) written × (take (8 + rows * actions) out' ≡ written)
-table-in-output {bytes} {out} (compiles a answer written c) = (written, c, take-at written (drop (length written) out) _ (table-size bytes written c))
+table-in-output {bytes} = front-made (Compiles bytes 1024 64) (λ t c. table-size bytes t c)
 
 -- Demand 3 of what two calls write: the tables in their outputs are equal, byte for byte, exactly when the same sequences satisfy the policies.
 pub written-same-exactly : {bytes out work values out' work' values' other lent area list lent' area' list' : List ℕ} {sheet sheet' : Sheet}

@@ -6,7 +6,7 @@ use Prim.Native.Nat.{ℕ, _-_, _≤_}
 use native.Mathlib.Omega.{arith}
 use Rattle.trace.specs.declared.Mode.{Mode}
 use Rattle.trace.specs.declared.Mode.the-variants.{Watched, Enforced}
-use Rattle.trace.specs.Trace.{Sequence, trips}
+use Rattle.trace.specs.Trace.{Sequence}
 use Rattle.policy.specs.declared.Bound.{Bound}
 use Rattle.policy.specs.declared.Typing.the-variants.{Typed}
 use Rattle.policy.specs.Policy.{Policy, satisfies}
@@ -14,7 +14,7 @@ use Rattle.policy.specs.Typing.{typeOf as typingOf}
 use Rattle.policy.specs.Trips.{tripsPolicy}
 use Rattle.policy.proofs.Rules.{watched-satisfied, enforced-satisfied}
 use Rattle.automaton.specs.Minimal.{RowsOf}
-use Rattle.table.specs.Table.{typeOf, actionsOf, rowsOf, entriesOf, rowStep, RowsFit, CanonicalRows, Accepted, judged, verdict}
+use Rattle.table.specs.Table.{typeOf, actionsOf, rowsOf, entriesOf, Accepted, judged, verdict}
 use Rattle.table.specs.Answer.{accepted as accepts, modeNumber}
 use Rattle.syntax.specs.Nodes.{propositionsOf}
 use Rattle.syntax.specs.Meaning.{sheetPolicy}
@@ -23,12 +23,11 @@ use Rattle.syntax.specs.declared.Sheet.{Sheet}
 use Rattle.syntax.specs.declared.TypedNode.{TypedNode}
 use Rattle.syntax.proofs.Meanings.{policy-of}
 use Rattle.sheet.specs.Judge.{judge}
-use Rattle.node_rules.specs.Nodes.{Tables, tripsNode}
-use Rattle.compiler.specs.Limits.{Built}
-use Rattle.compiler.specs.Compiles.{tableBytes, Builds, builds, Compiles, passes}
+use Rattle.node_rules.specs.Nodes.{tripsNode}
+use Rattle.making.proofs.TableBytes.{MadeOf, made-of}
+use Rattle.compiler.specs.Compiles.{Builds, builds, Compiles, passes}
 use Rattle.compiler.proofs.Passed.{passed}
 use Rattle.compiler_laws.specs.Demands.{ReadAs, tripsSheet}
-use Rattle.compiler_laws.proofs.TableBytes.{Laid, laid, accepted-bytes}
 
 mode-low : (mode : Mode) → 1 ≤ modeNumber mode
 mode-low Watched = omega arith
@@ -64,41 +63,24 @@ pub record CompiledAs (bytes : List ℕ) (type actions rows : ℕ) (written : Li
   pub read : ReadAs bytes sheet
   pub table : TableOf sheet type actions rows written
 
-module _ {mode : Mode} {sheet : Sheet} {types : List TypedNode} (right : SoundSheet mode sheet types) (valueLimit rowLimit : ℕ) (small : rowLimit ≤ 64)
-    (tables : Tables) (b : Built sheet tables valueLimit rowLimit (sheet .count - 1)) (written : List ℕ)
-    (l : Laid written (modeNumber mode) (sheet .actions) (b .rows) (tables (sheet .count - 1))) where
-  rows-fit : RowsFit (b .rows) (sheet .actions) (tables (sheet .count - 1))
-  rows-fit =
-      record {
-        machine = b .fits .machine;
-        rows-low = b .fits .low;
-        rows-high = omega (arith, b .few-rows);
-        actions-low = right .formed .some-action;
-        actions-high = right .formed .few-actions;
-      }
-
-  canonical-rows : CanonicalRows (b .rows) (sheet .actions) (tables (sheet .count - 1))
-  canonical-rows = record { numbered = b .fits .numbered; distinct = b .fits .distinct }
-
-  reads : (w : List ℕ) → Sequence (sheet .actions) w → trips (rowStep written) 0 w ≡ tripsNode sheet (sheet .count - 1) w
-  reads w s = rw (l .actions-are, l .entries-are) (b .fits .reads w s)
-
+module _ {mode : Mode} {sheet : Sheet} {types : List TypedNode} (right : SoundSheet mode sheet types) {rows : ℕ} {written : List ℕ}
+    (made : MadeOf (modeNumber mode) (sheet .actions) (tripsSheet sheet) rows written) where
   gives : (w : List ℕ) → Sequence (sheet .actions) w → verdict written w ≡ satisfies (propositionsOf sheet) (sheetPolicy sheet) w
   gives w s =
-      ap (judged (typeOf written)) (reads w s)
-      ∙ ap (λ (type : ℕ). judged type (tripsNode sheet (sheet .count - 1) w)) (l .type-is)
+      ap (judged (typeOf written)) (made .reads w s)
+      ∙ ap (λ (type : ℕ). judged type (tripsNode sheet (sheet .count - 1) w)) (made .type-is)
       ∙ judged-satisfied mode (propositionsOf sheet) (sheetPolicy sheet) (right .bound)
       (policy-of sheet types right (sheet .count - 1) (omega (arith, right .formed .some-node)) (right .last)) w
 
-  table-of : TableOf sheet (modeNumber mode) (sheet .actions) (b .rows) written
+  table-of : TableOf sheet (modeNumber mode) (sheet .actions) rows written
   table-of =
       record {
-        accepted = accepted-bytes l (mode-low mode) (mode-high mode) rows-fit canonical-rows;
-        type-is = l .type-is;
-        actions-are = l .actions-are;
+        accepted = made .accepted;
+        type-is = made .type-is;
+        actions-are = made .actions-are;
         listed = refl;
-        rows-are = l .rows-are;
-        fits = subst (RowsOf (sheet .actions) (tripsSheet sheet) (b .rows)) (sym (l .entries-are)) (b .fits);
+        rows-are = made .rows-are;
+        fits = made .fits;
         verdicts = gives;
       }
 
@@ -110,7 +92,10 @@ module _ (bytes : List ℕ) (valueLimit rowLimit : ℕ) (small : rowLimit ≤ 64
         sheet = sheet;
         read = record { mode = mode; types = types; judged = j };
         table =
-            table-of (passed bytes j) valueLimit rowLimit small tables last _ (laid (modeNumber mode) (sheet .actions) (last .rows) (tables (sheet .count - 1)));
+            let right = passed bytes j in
+            table-of right
+            (made-of (modeNumber mode) (sheet .actions) (mode-low mode) (mode-high mode) (right .formed .some-action) (right .formed .few-actions)
+            (omega (arith, last .few-rows)) (last .fits));
       }
 
   -- A sheet is compiled to an accepted table that gives its policy's verdict after every sequence.

@@ -20,10 +20,11 @@ use Rattle.syntax.specs.declared.TypedNode.{TypedNode}
 use Rattle.trace.specs.declared.Mode.{Mode}
 use Rattle.sheet.specs.Judge.{judge}
 use Rattle.node_rules.specs.Nodes.{Tables}
-use Rattle.compiler.specs.Limits.{OverValues, OverRows, Built}
-use Rattle.compiler.specs.Compiles.{tableBytes, PolicyNode, BuiltBefore, StopsAt, values, rows, Builds, stops, builds, Compiles, faulted, passes}
+use Rattle.compiler.specs.Limits.{OverValues, Built}
+use Rattle.making.specs.Making.{IsTable, tableBytes}
+use Rattle.compiler.specs.Compiles.{PolicyNode, BuiltBefore, StopsAt, values, rows, Builds, stops, builds, Compiles, faulted, passes}
 use Rattle.compiler.proofs.Passed.{passed}
-use Rattle.compiler_laws.specs.Demands.{ReadAs, GetsTable, InsideLimits, NoneOver, NoRefusal, IsTable, OneActionList, SameSatisfied}
+use Rattle.compiler_laws.specs.Demands.{ReadAs, GetsTable, InsideLimits, NoneOver, NoRefusal, OneActionList, SameSatisfied}
 use Rattle.compiler_laws.proofs.Outcome.{over-values-same, tables-agree, not-faulty, compiles-determined}
 use Rattle.compiler_laws.proofs.CompiledTable.{TableOf, compiled-table, compiled-as}
 

@@ -1,5 +1,4 @@
 pub mod Outcome
-pub mod TableBytes
 pub mod CompiledTable
 pub mod SharedRows
 pub mod Demands

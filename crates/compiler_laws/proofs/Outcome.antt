@@ -1,7 +1,7 @@
 -- Compiling has one answer and one table for each sheet: the first fault, or the lowest node over a limit, or the rows of the last node.
 -- Assumes nothing.
 use mathlib.Core.Path.{_≡_, refl, sym, ap, ap₂, subst}
-use mathlib.Core.List.{List, []}
+use mathlib.Core.List.{List}
 use Prim.Native.Nat.{ℕ, _-_, _≤_, _<_}
 use native.Mathlib.Decide.{decLt}
 use native.Mathlib.Omega.{arith}
@@ -11,7 +11,7 @@ use Rattle.automaton.specs.Machine.{transition}
 use Rattle.automaton.proofs.MinimalRows.{rows-unique, few-rows-suffice}
 use Rattle.policy.specs.Rule.{Rule}
 use Rattle.policy.specs.Value.{Part, remembered}
-use Rattle.table.specs.Answer.{Answer, accepted, refused, modeNumber}
+use Rattle.table.specs.Answer.{Answer, refused}
 use Rattle.syntax.specs.Faults.{numberOf, spotOf}
 use Rattle.syntax.specs.Types.{typeAt}
 use Rattle.syntax.specs.Typed.{faulty, sound, SoundSheet}
@@ -24,7 +24,7 @@ use Rattle.rules.proofs.RuleParts.{all-map, on-parts-agree}
 use Rattle.node_rules.specs.Nodes.{Tables, tripsNode, nodeRule, partOf, ruleOn}
 use Rattle.node_rules.proofs.Facts.{node-facts}
 use Rattle.compiler.specs.Limits.{OverValues, Built}
-use Rattle.compiler.specs.Compiles.{tableBytes, PolicyNode, BuiltBefore, StopsAt, values, rows, Builds, stops, builds, Compiles, faulted, passes}
+use Rattle.compiler.specs.Compiles.{PolicyNode, BuiltBefore, StopsAt, values, rows, Builds, stops, builds, Compiles, faulted, passes}
 use Rattle.compiler.proofs.Passed.{passed}
 
 -- Two lists of rows agree on the policy nodes before n.

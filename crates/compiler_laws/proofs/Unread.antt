@@ -8,7 +8,8 @@ use Rattle.sheet.specs.Layout.{AgreeInAreas}
 use Rattle.sheet.specs.Judge.{judge}
 use Rattle.sheet.proofs.Unread.{unread}
 use Rattle.compiler.specs.Compiles.{Compiles, faulted, passes}
-use Rattle.compiler.specs.Calling.{CompilesInto, short, compiles}
+use Rattle.making.specs.Making.{short, makes}
+use Rattle.compiler.specs.Calling.{CompilesInto}
 
 same-compiled : (bytes other : List ℕ) → judge bytes ≡ judge other → {valueLimit rowLimit : ℕ} {answer : Answer} {written : List ℕ}
     → Compiles bytes valueLimit rowLimit answer written → Compiles other valueLimit rowLimit answer written
@@ -24,4 +25,4 @@ compiles-unread bytes other agree c = same-compiled bytes other (unread bytes ot
 pub call-unread : (bytes other : List ℕ) → AgreeInAreas bytes other → {out work values out' work' values' : List ℕ} {answer : Answer}
     → CompilesInto bytes out work values answer out' work' values' → CompilesInto other out work values answer out' work' values'
 call-unread bytes other agree (short h) = short h
-call-unread bytes other agree (compiles a answer written c) = compiles a answer written (compiles-unread bytes other agree c)
+call-unread bytes other agree (makes a answer written c) = makes a answer written (compiles-unread bytes other agree c)

@@ -7,7 +7,7 @@ use Prim.Native.Nat.{ℕ, _-_, _<_}
 use Rattle.trace.specs.declared.Mode.{Mode}
 use Rattle.trace.specs.Trace.{Sequence}
 use Rattle.policy.specs.Policy.{satisfies}
-use Rattle.table.specs.Answer.{Answer, accepted, refused}
+use Rattle.table.specs.Answer.{accepted}
 use Rattle.syntax.specs.Nodes.{propositionsOf}
 use Rattle.syntax.specs.Meaning.{sheetPolicy}
 use Rattle.syntax.specs.Typed.{sound}
@@ -51,11 +51,6 @@ pub record NoRefusal (bytes : List ℕ) (valueLimit rowLimit : ℕ) : Type 0 whe
   pub sheet : Sheet
   pub read : ReadAs bytes sheet
   pub none : NoneOver sheet (read .types) valueLimit rowLimit
-
--- An answer is a table.
-abbrev pub IsTable : Answer → Type 0
-IsTable (accepted type actions rows) = Unit {0}
-IsTable (refused number spot) = ⊥
 
 -- Two sheets have one action list.
 pub record OneActionList (sheet other : Sheet) : Type 0 where

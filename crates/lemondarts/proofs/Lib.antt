@@ -7,4 +7,5 @@ pub mod TextNumbers
 pub mod SessionLaws
 pub mod SessionTexts
 pub mod PutTexts
+pub mod JoinedTables
 pub mod ReturnsDetermined

@@ -9,9 +9,11 @@ use Rattle.table.proofs.Loading.{load-determined}
 use Rattle.compiler_laws.proofs.Calls.{call-determined}
 use Rattle.histories.proofs.CallsDetermined.{makes-determined, puts-on-determined, takes-off-determined, acts-determined}
 use Rattle.text_laws.proofs.Outcomes.{text-determined}
+use Rattle.joining_laws.proofs.Outcome.{join-call-determined}
 use Rattle.answers.specs.Numbers.{packedReply, packedAnswer}
 use Rattle.lemondarts.specs.Exports.{LoadReturns, Returns, short-record, called, recordAfter, NewBoardReturns, PutOnReturns, TakeOffReturns, ActionReturns}
 use Rattle.lemondarts.specs.Compiling.{CompileReturns}
+use Rattle.lemondarts.specs.Joining.{JoinReturns}
 use Rattle.answers.specs.Texts.{packedText}
 use Rattle.lemondarts.specs.Texts.{TextReturns}
 
@@ -23,6 +25,12 @@ pub compile-returns-determined : {sheet out work values : List ℕ} {returned ot
     → (returned ≡ other) × (out' ≡ out'') × (work' ≡ work'') × (values' ≡ values'')
 compile-returns-determined p q =
     let (a, o, w, v) = call-determined (p .compiles) (q .compiles) in (p .number ∙ ap packedAnswer a ∙ sym (q .number), o, w, v)
+
+pub join-returns-determined : {count : ℕ} {tables out work values : List ℕ} {returned other : ℕ} {out' work' values' out'' work'' values'' : List ℕ}
+    → JoinReturns count tables out work values returned out' work' values' → JoinReturns count tables out work values other out'' work'' values''
+    → (returned ≡ other) × (out' ≡ out'') × (work' ≡ work'') × (values' ≡ values'')
+join-returns-determined p q =
+    let (a, o, w, v) = join-call-determined (p .joins) (q .joins) in (p .number ∙ ap packedAnswer a ∙ sym (q .number), o, w, v)
 
 pub text-returns-determined : {text actions sheet : List ℕ} {returned other : ℕ} {sheet' sheet'' : List ℕ} → TextReturns text actions sheet returned sheet'
     → TextReturns text actions sheet other sheet'' → (returned ≡ other) × (sheet' ≡ sheet'')

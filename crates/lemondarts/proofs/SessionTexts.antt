@@ -9,7 +9,8 @@ use native.Mathlib.Omega.{arith}
 use lib.ListN.{take}
 use Rattle.table.specs.Table.{typeOf}
 use Rattle.table.specs.Answer.{Answer, accepted, refused}
-use Rattle.compiler.specs.Calling.{CompilesInto, short, compiles}
+use Rattle.making.specs.Making.{short, makes as made}
+use Rattle.compiler.specs.Calling.{CompilesInto}
 use Rattle.compiler_laws.proofs.Calls.{table-in-output}
 use Rattle.histories.specs.History.{Event, rule, onPlace, Listed, Member}
 use Rattle.grammar.specs.Words.{wordsOf}
@@ -38,7 +39,7 @@ module _ {text actions sheet sheet' : List ℕ} {bytes count nodes : ℕ} (call 
   refused-some : {out' work' values' : List ℕ} {number spot : ℕ}
       → CompilesInto (take bytes sheet') out work values (refused number spot) out' work' values' → 1 ≤ number
   refused-some (short n) = omega arith
-  refused-some (compiles a answer table c) =
+  refused-some (made a answer table c) =
       elim (text-refused-by call read narrow c) [ inl e ↦ omega arith | inr over ↦ elim over [ inl e ↦ omega arith | inr e ↦ omega arith ] ]
 
   -- so a 0 is a table, and its fields say how long it is

@@ -1,12 +1,13 @@
 -- The number that compiling returns says the whole answer: a table's type, actions and rows, or a refusal's number and node.
 -- Assumes nothing.
-use mathlib.Core.Path.{_≡_, subst}
+use mathlib.Core.Path.{subst}
 use mathlib.Core.List.{List}
-use Prim.Native.Nat.{ℕ, _≤_, _<_}
+use Prim.Native.Nat.{ℕ, _≤_}
 use native.Mathlib.Omega.{arith}
 use Rattle.table.specs.Answer.{Answer, accepted, refused}
 use Rattle.compiler.specs.Compiles.{Compiles}
-use Rattle.compiler.specs.Calling.{CompilesInto, short, compiles}
+use Rattle.making.specs.Making.{short, makes}
+use Rattle.compiler.specs.Calling.{CompilesInto}
 use Rattle.compiler_laws.proofs.CompiledTable.{compiled-as}
 use Rattle.compiler_laws.proofs.Spots.{refused-low}
 use Rattle.answers.specs.Numbers.{packedAnswer}
@@ -22,4 +23,4 @@ compiles-says bytes (accepted type actions rows) c =
 pub compile-says : {bytes out work values out' work' values' : List ℕ} {answer : Answer} → CompilesInto bytes out work values answer out' work' values'
     → Says answer (packedAnswer answer)
 compile-says (short n) = refused-says 14 0 (omega arith) (omega arith)
-compile-says {bytes} (compiles a answer written c) = compiles-says bytes answer c
+compile-says {bytes} (makes a answer written c) = compiles-says bytes answer c

@@ -1,5 +1,6 @@
 pub mod Exports
 pub mod Session
 pub mod Compiling
+pub mod Joining
 pub mod Texts
 pub mod TextTables

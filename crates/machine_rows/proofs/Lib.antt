@@ -3,3 +3,4 @@ pub mod BuiltSlots
 pub mod Minimising
 pub mod Sequences
 pub mod Slots
+pub mod PartRows

@@ -6,8 +6,8 @@ use Prim.Native.Nat.{ℕ, _+_, _*_, _-_, _≤_, _<_}
 use native.Mathlib.Decide.{decLt}
 use native.Mathlib.Omega.{arith}
 use lib.ListN.{length, take, drop, take-append-drop}
-use lib.Seq.{length-take-le, take-at, drop-at, take-append-le, drop-append-le, drop-drop}
-use borrow.Rule.Slice.PartMut.{putMid, postOf, drop-put}
+use lib.Seq.{length-take-le, take-at, take-take, drop-at, take-append-le, drop-append-le, drop-drop}
+use borrow.Rule.Slice.PartMut.{midOf, putMid, postOf, drop-put}
 use Rattle.rules.specs.Rules.{slotAt}
 
 -- a slot that ends before place a is that of the first a bytes
@@ -15,6 +15,12 @@ slot-of-front : (i a : ℕ) (front rest : List ℕ) → length front ≡ a → i
 slot-of-front i a front rest e h =
     ap (take 1024) (drop-append-le (i * 1024) front rest (omega arith))
     ∙ take-append-le 1024 (drop (i * 1024) front) rest (simp (lib.ListN.length-drop) (omega arith))
+
+-- the first k bytes of a slot, as a part of the work area
+pub slot-front : (n k : ℕ) (work : List ℕ) → k ≤ 1024 → midOf (n * 1024) (n * 1024 + k - n * 1024) work ≡ take k (slotAt work n)
+slot-front n k work h =
+    ap (λ (m : ℕ). take m (drop (n * 1024) work)) (let e : n * 1024 + k - n * 1024 ≡ k = omega arith in e)
+    ∙ sym (take-take k 1024 (drop (n * 1024) work) h)
 
 module _ (n : ℕ) (work slot : List ℕ) (room : n * 1024 + 1024 ≤ length work) (long : length slot ≡ n * 1024 + 1024 - n * 1024) where
   abbrev from : ℕ

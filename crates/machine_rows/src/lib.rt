@@ -1,13 +1,13 @@
-// The rows of a rule's machine, in a slot of the work area: its remembered values explored, refined, and divided by alikeness.
+// The rows of a machine on numbers, in a slot of the work area: its values explored, refined, and divided by alikeness.
 mod divide;
 mod scratch;
 mod sizes;
 
-use rules::NodeRule;
-use sizes::Plan;
-use sizes::build_large;
+pub use sizes::Plan;
+pub use sizes::build_large;
 use sizes::build_small;
-ghost use Rattle.rules.specs.Steps.{codeStep, codeStart};
+use steppers::Stepper;
+ghost use Rattle.steppers.specs.Steppers.{stepBy, startBy};
 ghost use Rattle.machine_rows.specs.Builds.{BuildsTo, Buildable};
 
 // What building a machine's rows answers: their number, or the limit that the machine is over.
@@ -17,10 +17,10 @@ pub enum MachineBuilt {
     TooManyRows,
 }
 
-// Builds the rows of a rule's machine and writes them to slot n of the work area; the rest of the slot becomes 255. Where a limit is
+// Builds the rows of a machine and writes them to slot n of the work area; the rest of the slot becomes 255. Where a limit is
 // exceeded, the work area is left as it was. Most machines have few values, so the small scratch lists are tried first.
 pub fn build_slot(
-    rule: NodeRule,
+    stepper: Stepper,
     n: usize,
     actions: usize,
     value_limit: usize,
@@ -28,11 +28,11 @@ pub fn build_slot(
     work: &mut [u8],
     values: &mut [u64],
 ) -> MachineBuilt
-    requires { ⌜ Buildable (now work) rule n actions «value_limit» «row_limit» (now values) ⌝ }
-    ensures { λ r. ⌜ BuildsTo actions (codeStep actions (now (work .entry)) rule) (codeStart actions (now (work .entry)) rule) «value_limit» «row_limit» n r (now (work .entry)) (now (work .exit)) ⌝ }
+    requires { ⌜ Buildable (now work) stepper n actions «value_limit» «row_limit» (now values) ⌝ }
+    ensures { λ r. ⌜ BuildsTo actions (stepBy actions (now (work .entry)) stepper) (startBy actions (now (work .entry)) stepper) «value_limit» «row_limit» n r (now (work .entry)) (now (work .exit)) ⌝ }
 {
     let plan = Plan {
-        rule,
+        stepper,
         slot: n,
         actions,
         values: value_limit,
@@ -42,7 +42,7 @@ pub fn build_slot(
         return build_small(plan, work, values);
     }
     let few = Plan {
-        rule,
+        stepper,
         slot: n,
         actions,
         values: 64,

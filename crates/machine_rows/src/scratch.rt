@@ -1,4 +1,4 @@
-// Scratch lists for the machine of one rule: some 4 KiB of stack for at most 64 values, and some 38 KiB for at most 1,024. Only their
+// Scratch lists for one machine: some 4 KiB of stack for at most 64 values, and some 38 KiB for at most 1,024. Only their
 // lengths are known.
 ghost use mathlib.Core.Path.{_≡_};
 ghost use lib.ListN.{length};

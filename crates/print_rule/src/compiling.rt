@@ -3,6 +3,7 @@ use crate::nodes::bound_under;
 use crate::nodes::words_before;
 use crate::output::say;
 use crate::output::say_number;
+use crate::parts::Place;
 use crate::refusals::say_place;
 use compiler::Compiled;
 use policy::Bound;
@@ -31,38 +32,45 @@ fn say_bound(bound: Bound) {
 }
 
 // 6 of a text: the number of a fulfilling.
-fn tell_fault(fault: Fault, text: &[u8], sheet: &[u8])
-    requires { ⌜ length (now text) ≤ 65535 ⌝ }
+fn tell_fault(fault: Fault, text: &[u8], place: Place, sheet: &[u8])
+    requires { ⌜ (length (now text) ≤ 65535) × (place .line ≤ 65536) ⌝ }
 {
     if let Fault::WrongTypeAt(node) = fault {
-        say_place(text, words_before(sheet, node));
+        say_place(text, place, words_before(sheet, node));
         say(b" has a number that is not the bound of its first part\n");
         say_bound(bound_under(sheet, node));
     }
 }
 
 // 8 and 9: how the node grows too large.
-fn tell_size(text: &[u8], sheet: &[u8], node: usize, grown: &[u8])
-    requires { ⌜ length (now text) ≤ 65535 ⌝ }
+fn tell_size(text: &[u8], place: Place, sheet: &[u8], node: usize, grown: &[u8])
+    requires { ⌜ (length (now text) ≤ 65535) × (place .line ≤ 65536) ⌝ }
 {
-    say_place(text, words_before(sheet, node));
+    say_place(text, place, words_before(sheet, node));
     say(grown);
     say(b"simplify what begins there, or split the rule over several places\n");
 }
 
 // What compiling the sheet of a text answers, where that is a refusal.
-pub(crate) fn tell_compiled(compiled: Compiled, text: &[u8], sheet: &[u8])
-    requires { ⌜ length (now text) ≤ 65535 ⌝ }
+pub(crate) fn tell_compiled(compiled: Compiled, text: &[u8], place: Place, sheet: &[u8])
+    requires { ⌜ (length (now text) ≤ 65535) × (place .line ≤ 65536) ⌝ }
 {
     match compiled {
-        Compiled::Faulty(fault) => tell_fault(fault, text, sheet),
+        Compiled::Faulty(fault) => tell_fault(fault, text, place, sheet),
         Compiled::TooManyValues(node) => tell_size(
             text,
+            place,
             sheet,
             node,
             b" remembers over 1024 values\n",
         ),
-        Compiled::TooManyRows(node) => tell_size(text, sheet, node, b" needs over 64 rows\n"),
+        Compiled::TooManyRows(node) => tell_size(
+            text,
+            place,
+            sheet,
+            node,
+            b" needs over 64 rows\n",
+        ),
         _ => {}
     }
 }

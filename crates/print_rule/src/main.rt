@@ -1,9 +1,12 @@
 // Reads a rule file from standard input and prints the rule's table, or its refusal and what to do. The first line of the file is the action list,
-// what stands behind it is the rule's text.
+// what stands behind it is the rule's text; or several texts, parted by lines `---`, whose tables are joined.
 mod actions;
 mod compiling;
+mod file;
+mod joined;
 mod nodes;
 mod output;
+mod parts;
 mod refusals;
 mod rule;
 mod words;
@@ -12,5 +15,5 @@ mod words;
 fn main() {
     let mut input = io::large_buffer();
     let length = io::read_full(0, &mut input);
-    rule::answer(&input[..length]);
+    file::answer(&input[..length]);
 }

@@ -3,6 +3,7 @@ use crate::output::say;
 use crate::output::say_behind;
 use crate::output::say_number;
 use crate::output::say_word;
+use crate::parts::Place;
 use crate::words::is_plain;
 use crate::words::newlines;
 use crate::words::same;
@@ -55,8 +56,19 @@ pub(crate) fn tell_actions(count: usize) {
     say(b" actions, and 16 are the most: take some away\n");
 }
 
+// Which rule is told of, where there are several.
+pub(crate) fn say_rule(rule: usize, behind: &[u8]) {
+    if rule == 0 {
+        return;
+    }
+    say(b"rule ");
+    say_number(rule);
+    say(behind);
+}
+
 // 31.
-pub(crate) fn tell_long(length: usize) {
+pub(crate) fn tell_long(length: usize, place: Place) {
+    say_rule(place.rule, b": ");
     say(b"the rule has ");
     say_number(length);
     say(b" bytes, and 1024 are the most: shorten it, or split it over several places\n");
@@ -70,21 +82,23 @@ pub(crate) fn tell_long_file() {
 }
 
 // 33.
-pub(crate) fn tell_nodes() {
+pub(crate) fn tell_nodes(place: Place) {
+    say_rule(place.rule, b": ");
     say(
         b"the rule has over 64 nodes, which are its words but for the first one and the numbers: shorten it, or split it over several places\n",
     );
 }
 
-// A word of the rule and where it stands. The rule begins on line 2.
-pub(crate) fn say_place(text: &[u8], words: usize)
-    requires { ⌜ length (now text) ≤ 65535 ⌝ }
+// A word of the rule and where it stands. The place has the line on which the text begins.
+pub(crate) fn say_place(text: &[u8], place: Place, words: usize)
+    requires { ⌜ (length (now text) ≤ 65535) × (place .line ≤ 65536) ⌝ }
 {
     let span = word_behind(text, words);
     let from = span.from;
     let to = span.to;
+    say_rule(place.rule, b", ");
     say(b"line ");
-    say_number(2 + newlines(text, from));
+    say_number(place.line + newlines(text, from));
     say(b", ");
     say_behind(words, b"word");
     say(b" of the rule: ");
@@ -142,6 +156,10 @@ fn say_why(word: &[u8], expected: Category) {
 }
 
 fn tell_misfit(word: &[u8], expected: Category) {
+    if same(word, b"---") {
+        say(b" parts two rules, and is to stand on a line of its own\n");
+        return;
+    }
     if let Category::End = expected {
         say(b" stands behind a whole rule: take it away\n");
         return;
@@ -153,19 +171,20 @@ fn tell_misfit(word: &[u8], expected: Category) {
 }
 
 // 32, behind so many words.
-pub(crate) fn tell_unreadable(text: &[u8], words: usize, expected: Category)
-    requires { ⌜ length (now text) ≤ 65535 ⌝ }
+pub(crate) fn tell_unreadable(text: &[u8], place: Place, words: usize, expected: Category)
+    requires { ⌜ (length (now text) ≤ 65535) × (place .line ≤ 65536) ⌝ }
 {
     let span = word_behind(text, words);
     let from = span.from;
     let to = span.to;
     if from == to {
+        say_rule(place.rule, b": ");
         say(b"the text ends too soon, ");
         say_behind(words, b"word");
         say(b"\n");
         say_expected(expected);
         return;
     }
-    say_place(text, words);
+    say_place(text, place, words);
     tell_misfit(&text[from..to], expected);
 }

@@ -64,10 +64,11 @@ module _ {rules : List RuleAt} {count actions valueLimit rowLimit : â„•} {workâ‚
     next-buildable AsFormula e values room space = tt
     next-buildable (AsRule rule) e values room space =
         record {
-          steppable = record {
+          steps = record {
             room = room;
             parts = all-map (EarlierRule rules n) (Readable before) part-readable (ruleOver rule) (lent .parts n inside rule e);
           };
+          bytes = room;
           slot = omega (arith, lent .few);
           actions-low = lent .actions-low;
           actions-high = lent .actions-high;

@@ -2,6 +2,7 @@
 use machine_rows::MachineBuilt;
 use rules::Lowered;
 use rules::RuleAt;
+use steppers::Stepper;
 ghost use Rattle.rule_rows.specs.Next.{NextTo, NextBuildable};
 ghost use Rattle.rule_rows.specs.Lists.{FinishesTo, AllBuildable};
 
@@ -28,7 +29,15 @@ fn build_next(
     let Lowered::AsRule(rule) = node else {
         return MachineBuilt::Rows(0);
     };
-    machine_rows::build_slot(rule, n, actions, value_limit, row_limit, work, values)
+    machine_rows::build_slot(
+        Stepper::OfRule(rule),
+        n,
+        actions,
+        value_limit,
+        row_limit,
+        work,
+        values,
+    )
 }
 
 // Builds each rule of a list in its order, each in its own slot.

@@ -3,6 +3,7 @@ mod parts;
 mod sets;
 mod steps;
 
+pub use parts::part_move;
 pub use steps::start;
 pub use steps::step;
 

@@ -11,7 +11,8 @@ use Rattle.trace.specs.declared.Mode.{Mode}
 use Rattle.table.specs.Answer.{Answer, accepted, refused, modeNumber}
 use Rattle.table.specs.Table.{entriesOf}
 use Rattle.compiler.specs.Compiles.{Compiles}
-use Rattle.compiler.specs.Calling.{Areas, CompilesInto, short, compiles}
+use Rattle.making.specs.Making.{Areas, short, makes}
+use Rattle.compiler.specs.Calling.{CompilesInto}
 use Rattle.compiler_laws.proofs.CompiledTable.{CompiledAs, compiled-as}
 use Rattle.compiler_laws.proofs.Spots.{refused-low}
 use Rattle.printing.specs.Text.{modeWord, counts, rowLine, rowLines, tableText, refusalText}
@@ -92,4 +93,4 @@ pub into-printed : {bytes out work values written work′ values′ old new : Li
     → CompilesInto bytes out work values answer written work′ values′ → PrintsAnswer (entriesOf written) old answer printed new
     → PrintsSheet bytes old printed new
 into-printed areas (short n) p = absurd (n areas)
-into-printed {bytes} {out} areas (compiles _ answer written c) p = sheet-printed bytes (drop (length written) out) c p
+into-printed {bytes} {out} areas (makes _ answer written c) p = sheet-printed bytes (drop (length written) out) c p

@@ -80,10 +80,17 @@ module _ (bytes : List ℕ) where
         rowed = word-of-part size bytes 4 (omega arith) ∙ f .rowed;
       }
 
+  -- its counts are theirs
+  pub front-actions : actionsOf (frontTable bytes) ≡ actionsOf bytes
+  front-actions = word-of-part size bytes 2 (omega arith)
+
+  pub front-rows : rowsOf (frontTable bytes) ≡ rowsOf bytes
+  front-rows = word-of-part size bytes 4 (omega arith)
+
   -- the length that a header gives, by its fields
   pub front-length : (mode : Mode) (actions rows : ℕ) → FieldsOf (frontTable bytes) mode actions rows → tableLength bytes ≡ 8 + rows * actions
   front-length mode actions rows f =
-      rw (← f .acting, ← f .rowed, word-of-part size bytes 2 (omega arith), word-of-part size bytes 4 (omega arith)) refl
+      rw (← f .acting, ← f .rowed, front-actions, front-rows) refl
 
   -- the entries of a table of that length stand behind the header
   pub front-entries : (mode : Mode) (actions rows end : ℕ) → FieldsOf (frontTable bytes) mode actions rows → end ≡ 8 + rows * actions

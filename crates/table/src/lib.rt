@@ -9,6 +9,7 @@ pub use format::check_front;
 pub use format::header_of;
 pub use format::mode_number;
 pub use loader::load;
+pub use rows::canonical;
 
 // What a table's header says, where its fields are in their ranges.
 pub enum Header {

@@ -15,6 +15,17 @@ extern "C" {
         values: *mut u64,
         values_len: usize,
     ) -> u64;
+    fn lemondarts_join(
+        count: usize,
+        tables: *const u8,
+        tables_length: usize,
+        out: *mut u8,
+        out_length: usize,
+        work: *mut u8,
+        work_length: usize,
+        values: *mut u64,
+        values_length: usize,
+    ) -> u64;
     fn lemondarts_read_text(
         text: *const u8,
         text_length: usize,
@@ -46,6 +57,23 @@ pub fn compile(sheet: &[u8], out: &mut [u8], work: &mut [u8], values: &mut [u64]
         lemondarts_compile(
             sheet.as_ptr(),
             sheet.len(),
+            out.as_mut_ptr(),
+            out.len(),
+            work.as_mut_ptr(),
+            work.len(),
+            values.as_mut_ptr(),
+            values.len(),
+        )
+    }
+    .into()
+}
+
+pub fn join(count: usize, tables: &[u8], out: &mut [u8], work: &mut [u8], values: &mut [u64]) -> Answer {
+    unsafe {
+        lemondarts_join(
+            count,
+            tables.as_ptr(),
+            tables.len(),
             out.as_mut_ptr(),
             out.len(),
             work.as_mut_ptr(),

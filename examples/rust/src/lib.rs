@@ -1,4 +1,4 @@
-//! Safe wrappers of the calls of include/lemondarts.h: read a text, compile, load, and a board that owns its bytes.
+//! Safe wrappers of the calls of include/lemondarts.h: read a text, compile, join, load, and a board that owns its bytes.
 
 mod answer;
 mod calls;
@@ -33,7 +33,7 @@ pub enum Type {
     Watched,
 }
 
-/// A table that the loader accepts, or that the compiler wrote.
+/// A table that the loader accepts, or that compiling or joining wrote.
 #[derive(Clone, Debug, PartialEq, Eq)]
 pub struct Table {
     bytes: Vec<u8>,
@@ -43,7 +43,7 @@ pub struct Table {
 }
 
 impl Table {
-    /// The table at the front of some bytes, as a done load or compile speaks of it.
+    /// The table at the front of some bytes, as a done load, compile or join speaks of it.
     fn told(answer: Answer, mut bytes: Vec<u8>) -> Result<Table, Refusal> {
         let (of, actions, rows) = match answer.done()? {
             (1, actions, rows) => (Type::Enforced, actions as usize, rows as usize),
@@ -77,6 +77,16 @@ pub fn compile(sheet: &[u8]) -> Result<Table, Refusal> {
     let (mut out, mut work, mut values) = (vec![0; LONGEST_TABLE], vec![0; WORK], vec![0; VALUES]);
     let answer = calls::compile(sheet, &mut out, &mut work, &mut values);
     Table::told(answer, out)
+}
+
+/// Joins two to eight enforced tables with one number of actions: the table that denies exactly where at least one of them
+/// does. Its bytes are the same in whichever order, or by whichever groups, they are joined.
+pub fn join(tables: &[&Table]) -> Result<Table, Refusal> {
+    let (mut out, mut work, mut values) = (vec![0; LONGEST_TABLE], vec![0; WORK], vec![0; VALUES]);
+    let bytes: Vec<u8> = tables.iter().flat_map(|table| table.bytes()).copied().collect();
+    let answer = calls::join(tables.len(), &bytes, &mut out, &mut work, &mut values);
+    // Refusals 8 and 9 are of the whole: they name no node here.
+    Table::told(answer, out).map_err(|refusal| Refusal { node: None, ..refusal })
 }
 
 /// Checks the bytes of a table.

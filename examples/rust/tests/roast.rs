@@ -1,6 +1,6 @@
 //! The roast prints what examples/roast.c prints; refusals, sheets and tables come through the wrappers whole.
 
-use lemondarts::{compile, load, read_text, Answer, Board, Refusal, Type, Verdict};
+use lemondarts::{compile, join, load, read_text, Answer, Board, Refusal, Table, Type, Verdict};
 use std::process::Command;
 
 #[test]
@@ -43,6 +43,41 @@ fn texts_that_are_no_rules() {
     assert_eq!(read_text(&[b' '; 1025], &[1]), refused(31, None));
     assert_eq!(read_text(format!("watch {}count 1", "eventually ".repeat(64)).as_bytes(), &[1]), refused(33, None));
     assert_eq!(read_text(b"watch now", &[1]).unwrap_err().to_string(), "refused 32 at word 2");
+}
+
+#[test]
+fn a_shops_rules_as_one_table() {
+    let tray = compile(include_bytes!("../../no_charge_before_tray.sheet")).unwrap();
+    let between = compile(include_bytes!("../../drop_between_charges.sheet")).unwrap();
+    let joined = join(&[&tray, &between]).unwrap();
+    assert_eq!(joined.bytes(), [1, 0, 4, 0, 3, 0, 8, 0, 255, 0, 1, 0, 2, 1, 1, 1, 255, 1, 2, 2]);
+    assert_eq!((joined.of, joined.actions, joined.rows), (Type::Enforced, 4, 3));
+    assert_eq!(load(joined.bytes()), Ok(joined.clone()));
+    assert_eq!(join(&[&between, &tray, &joined]), Ok(joined.clone()));
+    let mut board = Board::new();
+    board.put_on(6, &joined).unwrap();
+    let verdicts = [0, 2, 0, 0, 1, 0].map(|action| matches!(board.action(action), Ok(Verdict::Permitted(_))));
+    assert_eq!(verdicts, [false, true, true, false, true, true]);
+}
+
+#[test]
+fn tables_that_are_not_joined() {
+    let refused = |number| Err(Refusal { number, node: None, word: None });
+    let tray = compile(include_bytes!("../../no_charge_before_tray.sheet")).unwrap();
+    let five = compile(include_bytes!("../../no_charge_before_tray_5.sheet")).unwrap();
+    let watched = compile(include_bytes!("../../eventually_drop.sheet")).unwrap();
+    assert_eq!(join(&[]), refused(2));
+    assert_eq!(join(&[&tray]), refused(2));
+    assert_eq!(join(&[&tray; 9]), refused(2));
+    assert_eq!(join(&[&tray, &watched, &five]), refused(34));
+    assert_eq!(join(&[&tray, &five]), refused(23));
+    let at_most = |most: u8, action: u8| -> Table {
+        let text = format!("enforce ignoring not p{action} not count {most}");
+        compile(&read_text(text.as_bytes(), &[1, 2]).unwrap()).unwrap()
+    };
+    assert_eq!(join(&[&at_most(33, 0), &at_most(32, 1)]), refused(8));
+    assert_eq!(join(&[&at_most(32, 0), &at_most(32, 1)]), refused(9));
+    assert_eq!(join(&[&at_most(8, 0), &at_most(8, 1)]).map(|table| table.rows), Ok(64));
 }
 
 #[test]

@@ -67,6 +67,29 @@ impl Beside {
 
     /// Compiles with areas of these lengths, filled with junk; gives `out` as it stands then.
     pub fn compile(&mut self, random: &mut Random, sheet: &[u8], lengths: [usize; 3]) -> (Outcome, Vec<u8>) {
+        self.make(random, "compile", None, sheet, lengths)
+    }
+
+    /// Joins so many tables, in the same way.
+    pub fn join(
+        &mut self,
+        random: &mut Random,
+        count: usize,
+        tables: &[u8],
+        lengths: [usize; 3],
+    ) -> (Outcome, Vec<u8>) {
+        self.make(random, "join", Some(count), tables, lengths)
+    }
+
+    /// Makes a table: of a sheet, or of so many tables.
+    fn make(
+        &mut self,
+        random: &mut Random,
+        call: &'static str,
+        count: Option<usize>,
+        input: &[u8],
+        lengths: [usize; 3],
+    ) -> (Outcome, Vec<u8>) {
         let mut out = vec![0; lengths[0]];
         random.fill(&mut out);
         self.expected_work.resize(lengths[1], 0);
@@ -74,17 +97,25 @@ impl Beside {
         self.expected_values.resize(lengths[2], 0);
         self.expected_values.iter_mut().for_each(|value| *value = random.draw());
 
-        self.input.hold(random, sheet);
+        self.input.hold(random, input);
         self.out.hold(random, &out);
         self.work.hold(random, &self.expected_work);
         self.values.hold(random, &self.expected_values);
-        let (lent_out, lent_work) = (self.out.contents(), self.work.contents());
-        let answer = library::compile(self.input.contents(), lent_out, lent_work, self.values.contents());
+        let (lent, lent_out) = (self.input.contents(), self.out.contents());
+        let (lent_work, lent_values) = (self.work.contents(), self.values.contents());
+        let answer = match count {
+            None => library::compile(lent, lent_out, lent_work, lent_values),
+            Some(count) => library::join(count, lent, lent_out, lent_work, lent_values),
+        };
 
         let before = out.clone();
-        let expected = calls::compile(sheet, &mut out, &mut self.expected_work, &mut self.expected_values);
-        let mut report = Report::new("compile", answer, expected);
-        report.same("sheet", &mut self.input, sheet);
+        let (work, values) = (&mut self.expected_work, &mut self.expected_values);
+        let expected = match count {
+            None => calls::compile(input, &mut out, work, values),
+            Some(count) => calls::join(count, input, &mut out, work, values),
+        };
+        let mut report = Report::new(call, answer, expected);
+        report.same("input", &mut self.input, input);
         report.same("out", &mut self.out, &out);
         report.same("work", &mut self.work, &self.expected_work);
         report.same("values", &mut self.values, &self.expected_values);
@@ -98,7 +129,8 @@ impl Beside {
         if !cleared {
             report.differs("a work area is not zero");
         }
-        (report.close(&[("sheet", sheet)], &format!("lengths of out, work, values: {lengths:?}")), out)
+        let numbers = format!("lengths of out, work, values: {lengths:?}; count: {count:?}");
+        (report.close(&[("input", input)], &numbers), out)
     }
 
     /// Reads a text with an output of this length, filled with junk; gives the output as it stands then.

@@ -11,6 +11,7 @@ use boards::{about, any_board, number};
 use reference::board::{AREA, PLACES, RECORD};
 use reference::calls::{fields, VALUES, WORK};
 use reference::generate::Random;
+use reference::inputs::joins::any_join;
 use reference::inputs::sheets::any_sheet;
 use reference::inputs::tables::Pool;
 use reference::inputs::texts::{any_actions, any_text};
@@ -53,16 +54,35 @@ impl Fuzz {
     }
 
     fn compile(&mut self, sort: &'static str, sheet: &[u8]) {
-        let lengths = [LARGEST, WORK, VALUES].map(|length| about(&mut self.random, length));
-        let short = lengths[0] < LARGEST || lengths[1] < WORK || lengths[2] < VALUES;
+        let (lengths, short) = self.lengths();
         let (outcome, out) = self.beside.compile(&mut self.random, sheet, lengths);
-        if let Ok(answer) = &outcome {
+        self.keep(&outcome, &out);
+        self.count(if short { "sheet, an area too short" } else { sort }, "compile", outcome);
+    }
+
+    /// Joins tables; what they give goes to the others, so that joined tables are joined and put on boards too.
+    fn join(&mut self) {
+        let join = any_join(&mut self.random, &self.pool);
+        let (lengths, short) = self.lengths();
+        let (outcome, out) = self.beside.join(&mut self.random, join.count, &join.tables, lengths);
+        self.keep(&outcome, &out);
+        self.count(if short { "join, an area too short" } else { join.sort }, "join", outcome);
+    }
+
+    /// Lengths of the areas that making a table is lent, and whether one is too short.
+    fn lengths(&mut self) -> ([usize; 3], bool) {
+        let lengths = [LARGEST, WORK, VALUES].map(|length| about(&mut self.random, length));
+        (lengths, lengths[0] < LARGEST || lengths[1] < WORK || lengths[2] < VALUES)
+    }
+
+    /// Keeps a table that was made.
+    fn keep(&mut self, outcome: &Outcome, out: &[u8]) {
+        if let Ok(answer) = outcome {
             let [number, _, actions, rows] = fields(*answer);
             if number == 0 {
                 self.pool.keep(&mut self.random, &out[..8 + actions as usize * rows as usize]);
             }
         }
-        self.count(if short { "sheet, an area too short" } else { sort }, "compile", outcome);
     }
 
     /// Reads a text, and compiles the sheet that it gives.
@@ -143,18 +163,19 @@ fn main() {
         disagreements: 0,
     };
     while fuzz.calls < calls && fuzz.disagreements < ENOUGH {
-        match fuzz.random.below(140) {
+        match fuzz.random.below(160) {
             0..=39 => fuzz.sheet(),
             40..=69 => fuzz.table(),
             70..=98 => fuzz.board(),
             99..=138 => fuzz.text(),
+            139..=158 => fuzz.join(),
             _ => fuzz.history(),
         }
     }
     println!("inputs by sort");
     fuzz.sorts.iter().for_each(|(sort, count)| println!("{count:>9}  {sort}"));
     println!("answers by call and number (0 done, 255 denied)");
-    for name in ["read_text", "compile", "load", "new_board", "put_on", "take_off", "action"] {
+    for name in ["read_text", "compile", "join", "load", "new_board", "put_on", "take_off", "action"] {
         let of_call = fuzz.answers.iter().filter(|((call, _), _)| *call == name);
         let list: Vec<String> = of_call.map(|((_, number), count)| format!("{number}: {count}")).collect();
         println!("{name:>9}  {}", list.join(", "));

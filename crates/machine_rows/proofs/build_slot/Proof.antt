@@ -5,8 +5,8 @@ use mathlib.Core.Path.{_≡_, sym, subst}
 use mathlib.Core.List.{List}
 use Prim.Native.Nat.{ℕ, _≤_}
 use native.Mathlib.Omega.{arith}
-use Rattle.rules.specs.Rules.{Steppable}
-use Rattle.rules.specs.Steps.{codeStep, codeStart}
+use lib.ListN.{length}
+use Rattle.steppers.specs.Steppers.{stepBy, startBy, CanStep}
 use Rattle.machine_rows.specs.Builds.{BuildsTo}
 use Rattle.machine_rows.specs.declared.MachineBuilt.{MachineBuilt}
 use Rattle.machine_rows.specs.declared.MachineBuilt.the-variants.{Rows, TooManyValues, TooManyRows}
@@ -24,8 +24,8 @@ module _ (c : tie.After-build-small2) where
   work = c .build-small2 .last .1 .0
 
   small : (is : MachineBuilt) → c .build-small2 .result ≡ is
-      → BuildsTo (start .args .actions) (codeStep (start .args .actions) (start .args .work .now) (start .args .rule))
-      (codeStart (start .args .actions) (start .args .work .now) (start .args .rule)) 64 (start .args .row-limit) (start .args .n) is (start .args .work .now) work
+      → BuildsTo (start .args .actions) (stepBy (start .args .actions) (start .args .work .now) (start .args .stepper))
+      (startBy (start .args .actions) (start .args .work .now) (start .args .stepper)) 64 (start .args .row-limit) (start .args .n) is (start .args .work .now) work
   small is e = rw e at (c .build-small2 .ensures)
 
   wider : 64 ≤ start .args .value-limit
@@ -55,7 +55,8 @@ build-large-requires c κs =
     let t = c .before .before in
     let z = start (tried t) in
     record {
-      steppable = subst (λ (w : List ℕ). Steppable w (z .args .rule)) (sym (same t)) (z .pre .steppable);
+      steps = subst (λ (w : List ℕ). CanStep w (z .args .stepper)) (sym (same t)) (z .pre .steps);
+      bytes = subst (λ (w : List ℕ). 65536 ≤ length w) (sym (same t)) (z .pre .bytes);
       slot = z .pre .slot;
       actions-low = z .pre .actions-low;
       actions-high = z .pre .actions-high;
@@ -71,7 +72,7 @@ returns-4 c =
     let l = c .before .before .before .before in
     let t = l .before .before .before in
     let a = start (tried t) .args in
-    subst (λ (w : List ℕ). BuildsTo (a .actions) (codeStep (a .actions) w (a .rule)) (codeStart (a .actions) w (a .rule)) (a .value-limit) (a .row-limit) (a .n) (l .build-large .result) w (l .build-large .last .1 .0))
+    subst (λ (w : List ℕ). BuildsTo (a .actions) (stepBy (a .actions) w (a .stepper)) (startBy (a .actions) w (a .stepper)) (a .value-limit) (a .row-limit) (a .n) (l .build-large .result) w (l .build-large .last .1 .0))
     (same t) (l .build-large .ensures)
 
 pub build-slot-spec : {M : Type 1} → statement M

@@ -1,18 +1,16 @@
 -- `compiler::call::build_table` meets its contract: the rules of the sheet, their rows, and the table of the last one.
 -- Assumes nothing.
-use mathlib.Core.Path.{_≡_, sym, _∙_, ap, subst}
+use mathlib.Core.Path.{_≡_, sym, subst}
 use mathlib.Core.List.{List}
-use Prim.Native.Nat.{ℕ, _+_, _*_, _-_, _≤_}
+use Prim.Native.Nat.{ℕ, _*_, _-_, _≤_}
 use native.Mathlib.Omega.{arith}
 use lib.ListN.{length}
 use borrow.Author.Needs.{needs}
-use Rattle.syntax.specs.Typed.{SoundSheet}
 use Rattle.rules.specs.declared.RuleAt.{RuleAt}
 use Rattle.rule_rows.specs.Lists.{AllBuildable, FinishesTo}
 use Rattle.rule_rows.specs.declared.AllBuilt.{AllBuilt}
 use Rattle.rule_rows.specs.declared.AllBuilt.the-variants.{Rows}
 use Rattle.node_rules.specs.Lowering.{rulesOf}
-use Rattle.compiler.specs.Calling.{Lent}
 use Rattle.compiler.proofs.Answers.{buildable, values-over, rows-over, few-rows, size-small, part-inside, part-fits, table-written}
 use Rattle.compiler.proofs.call.build_table.Statement.{statement}
 use Rattle.compiler.proofs.call.build_table.Tie as tie

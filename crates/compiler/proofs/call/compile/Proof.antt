@@ -3,52 +3,59 @@
 use mathlib.Core.Path.{sym}
 use native.Mathlib.Omega.{arith}
 use lib.Seq.{length-take-le}
-use Rattle.compiler.specs.Calling.{short}
-use Rattle.compiler.proofs.LentAreas.{into}
+use Rattle.making.specs.Making.{Areas, short}
+use Rattle.making.proofs.LentAreas.{into}
 use borrow.Author.Needs.{needs}
 use Rattle.compiler.proofs.call.compile.Statement.{statement}
 use Rattle.compiler.proofs.call.compile.Tie as tie
 
-returns : tie.Need-returns
-returns c = short (λ a. let h = a .output in omega arith)
+-- the areas are long enough
+module _ (c : tie.Then1) where
+  abbrev start : tie.Start
+  start = c .before .before .before .before .before .before
 
-returns-2 : tie.Need-returns-2
-returns-2 c = short (λ a. let h = a .bytes in omega arith)
+  areas : Areas (start .args .out .now) (start .args .work .now) (start .args .values .now)
+  areas = rw (c .if1 .taken) at (c .before .long-enough .ensures)
 
-returns-3 : tie.Need-returns-3
-returns-3 c = short (λ a. let h = a .numbers in omega arith)
+slice-relend-prefix-compile-in : tie.Need-slice-relend-prefix-compile-in
+slice-relend-prefix-compile-in c = areas (c .before) .bytes
 
 slice-aggregate-compile-in : tie.Need-slice-aggregate-compile-in
-slice-aggregate-compile-in c = sym (length-take-le 65536 (c .before .before .before .before .before .before .before .before .before .args .work .now) (omega arith))
+slice-aggregate-compile-in c = let t = c .before .before in sym (length-take-le 65536 (start t .args .work .now) (areas t .bytes))
+
+slice-relend-prefix-compile-in-2 : tie.Need-slice-relend-prefix-compile-in-2
+slice-relend-prefix-compile-in-2 c = areas (c .before .before) .numbers
 
 slice-aggregate-compile-in-2 : tie.Need-slice-aggregate-compile-in-2
-slice-aggregate-compile-in-2 c = sym (length-take-le 1024 (c .before .before .before .before .before .before .before .before .before .before .args .values .now) (omega arith))
+slice-aggregate-compile-in-2 c = let t = c .before .before .before in sym (length-take-le 1024 (start t .args .values .now) (areas t .numbers))
 
 compile-in-requires : tie.Need-compile-in-requires
 compile-in-requires c κs =
-    let z = c .before .before .before .before .before .before .before .before .before .before in
-    (omega arith, (length-take-le 65536 (z .args .work .now) (omega arith), length-take-le 1024 (z .args .values .now) (omega arith)))
+    let t = c .before .before .before in
+    (areas t .output, (length-take-le 65536 (start t .args .work .now) (areas t .bytes), length-take-le 1024 (start t .args .values .now) (areas t .numbers)))
 
-returns-4 : tie.Need-returns-4
-returns-4 c =
+returns : tie.Need-returns
+returns c =
     let k = c .before .before .before .before .before .before in
-    let z = k .before .before .before .before .before .before .before .before .before .before .before in
+    let t = k .before .before .before .before in
     let e = k .compile-in .ensures in
-    into _ _ (z .args .work .now) (z .args .values .now) (record { output = omega arith; bytes = omega arith; numbers = omega arith }) _ _ _ _ (e .0) (e .1 .0) (e .1 .1)
+    into _ _ (start t .args .work .now) (start t .args .values .now) (areas t) _ _ _ _ (e .0) (e .1 .0) (e .1 .1)
+
+returns-2 : tie.Need-returns-2
+returns-2 c = short (rw (c .if1 .left) at (c .before .long-enough .ensures))
 
 pub compile-spec : {M : Type 1} → statement M
 compile-spec =
     tie.close
     (tie.spec
-    returns
-    returns-2
-    returns-3
-    (λ c. search needs)
+    (λ c κs. search needs)
+    slice-relend-prefix-compile-in
     slice-aggregate-compile-in
-    (λ c. search needs)
+    slice-relend-prefix-compile-in-2
     slice-aggregate-compile-in-2
     compile-in-requires
     (λ c. search needs)
     (λ c. search needs)
     (λ c. search needs)
-    returns-4)
+    returns
+    returns-2)

@@ -2,7 +2,7 @@
 -- Assumes nothing.
 use native.Mathlib.Omega.{arith}
 use lib.ListN.{length}
-use Rattle.compiler.proofs.LentAreas.{of-length}
+use Rattle.making.proofs.LentAreas.{of-length}
 use borrow.Author.Needs.{needs}
 use Rattle.compiler.proofs.call.compile_in.Statement.{statement}
 use Rattle.compiler.proofs.call.compile_in.Tie as tie

@@ -15,7 +15,7 @@ returns : tie.Need-returns
 returns c =
     record {
       written = [];
-      compiles = faulted _ (judged-faulty _ _ _ _ (c .before .before .before .judge .ensures) (c .before .found .given .1));
+      gives = faulted _ (judged-faulty _ _ _ _ (c .before .before .before .judge .ensures) (c .before .found .given .1));
       front = refl;
     }
 
@@ -36,7 +36,7 @@ returns-2 c =
     let b = c .before .before .before .before .before .before in
     let f = b .before .before .before .before .before .before .before in
     let e = b .build-table .ensures in
-    record { written = e .written; compiles = passes _ _ _ (judged f) _ _ (e .builds); front = e .front }
+    record { written = e .written; gives = passes _ _ _ (judged f) _ _ (e .gives); front = e .front }
 
 pub compile-with-spec : {M : Type 1} → statement M
 compile-with-spec =

@@ -1,0 +1,27 @@
+-- `join_cases::all_bytes` is safe and ends.
+-- Assumes nothing.
+use Prim.Native.Nat.{_≤_, _-_}
+use lib.ListN.{length}
+use borrow.Author.Needs.{needs}
+use Rattle.join_cases.proofs.all_bytes.Statement.{statement}
+use Rattle.join_cases.proofs.all_bytes.Tie as tie
+
+abbrev Inv-loop : tie.InvT-loop
+Inv-loop area byte k₀ k = k ≤ length area
+
+abbrev μ-loop : tie.MeasureT-loop
+μ-loop area byte k₀ k = length area - k
+
+pub all-bytes-spec : {M : Type 1} → statement M
+all-bytes-spec =
+    tie.close
+    (tie.spec
+    Inv-loop
+    μ-loop
+    (λ c. search needs)
+    (λ c. search needs)
+    (λ c. search needs)
+    (λ c. search needs)
+    (λ c. search needs)
+    (λ c. search needs)
+    (λ c. search needs))

@@ -1,0 +1,4 @@
+pub mod Walking
+pub mod Laying
+pub mod TupleRuns
+pub mod Meeting

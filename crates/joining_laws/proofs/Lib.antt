@@ -1,0 +1,14 @@
+pub mod SomeTrips
+pub mod Enforced
+pub mod Outcome
+pub mod Answers
+pub mod JoinedTable
+pub mod Calls
+pub mod Sets
+pub mod Itself
+pub mod Groups
+pub mod BoardAnswers
+pub mod Boards
+pub mod Putting
+pub mod JoinedBoard
+pub mod Policies

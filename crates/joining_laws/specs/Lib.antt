@@ -1,0 +1,6 @@
+pub mod Answers
+pub mod Conjunction
+pub mod Sets
+pub mod Groups
+pub mod Boards
+pub mod Policies

@@ -1,0 +1,4 @@
+pub mod WrittenTable
+pub mod LentAreas
+pub mod TableBytes
+pub mod Calls
