@@ -42,6 +42,12 @@ static const uint8_t wide[44] = {
 static uint8_t tables[LEMONDARTS_MOST_JOINED * LEMONDARTS_TABLE];
 static size_t table_count, tables_length;
 
+/* And of the node before, twice, from node 2 to the last: Not Count 60 is reached by all of them. */
+static uint8_t ands[LEMONDARTS_SHEET_HEADER + LEMONDARTS_SHEET_ACTION + LEMONDARTS_SHEET_NODE * LEMONDARTS_MOST_NODES];
+static const uint8_t list[60];
+static const uint8_t two_charges[3] = { 0, 2, 0 };
+static uint64_t place[LEMONDARTS_LIST_PLACE];
+
 static uint8_t text[LEMONDARTS_MOST_TEXT];
 static size_t text_length;
 static uint8_t written[LEMONDARTS_SHEET];
@@ -54,6 +60,12 @@ static void compile_wide(void) { answer = lemondarts_compile(wide, sizeof wide, 
 static void join(void) {
     answer = lemondarts_join(table_count, tables, tables_length, out, sizeof out, work, sizeof work, values, LEMONDARTS_VALUES);
 }
+static void explain_in(const uint8_t *of, size_t length, const uint8_t *actions_done, size_t count) {
+    answer = lemondarts_explain(of, length, actions_done, count, place, LEMONDARTS_LIST_PLACE, work, sizeof work, values, LEMONDARTS_VALUES);
+}
+static void explain(void) { explain_in(sheet, sizeof sheet, two_charges, sizeof two_charges); }
+static void explain_ands(void) { explain_in(ands, sizeof ands, list, sizeof list); }
+static void explain_wide(void) { explain_in(wide, sizeof wide, list, sizeof list); }
 static void read_text(void) { answer = lemondarts_read_text(text, text_length, actions, 4, written, sizeof written); }
 static void new_board(void) { answer = lemondarts_new_board(record, sizeof record, area, sizeof area); }
 static void put_on(void) { answer = lemondarts_put_on(record, sizeof record, area, sizeof area, 0, table, sizeof table); }
@@ -109,6 +121,16 @@ static void make_tables(size_t count, unsigned action_count, unsigned rows) {
     }
 }
 
+static void make_ands(void) {
+    static const uint8_t front[22] = { 1, 0, 64, 0, 10, 0, 12, 0, 76, 1, 0, 0, 12, 60, 0, 0, 0, 13, 0, 0, 0, 0 };
+    uint8_t k;
+    memcpy(ands, front, sizeof front);
+    for (k = 2; k < LEMONDARTS_MOST_NODES; k++) {
+        uint8_t node[LEMONDARTS_SHEET_NODE] = { LEMONDARTS_KIND_AND, 0, (uint8_t)(k - 1), (uint8_t)(k - 1), 0 };
+        memcpy(ands + 12 + 5 * k, node, sizeof node);
+    }
+}
+
 static void add(const char *words) {
     memcpy(text + text_length, words, strlen(words));
     text_length += strlen(words);
@@ -128,6 +150,7 @@ int main(void) {
     size_t bare = used(nothing);
     int wrong = 0;
     make_table();
+    make_ands();
     make_text("enforce ", "always ", 62, "holds p0");
     wrong |= show("read_text, 64 nodes", read_text, bare, LEMONDARTS_STACK_TEXT, LEMONDARTS_DONE);
     make_text("enforce ", "or ", 338, "or");
@@ -143,6 +166,9 @@ int main(void) {
     wrong |= show("join, 1,024 values", join, bare, LEMONDARTS_STACK_JOIN, LEMONDARTS_TOO_MANY_ROWS);
     make_tables(8, 16, 64);
     wrong |= show("join, the longest tables", join, bare, LEMONDARTS_STACK_JOIN, LEMONDARTS_TOO_MANY_VALUES);
+    wrong |= show("explain, up to 64 values", explain, bare, LEMONDARTS_STACK_EXPLAIN, LEMONDARTS_DENIED);
+    wrong |= show("explain, 62 Ands", explain_ands, bare, LEMONDARTS_STACK_EXPLAIN, LEMONDARTS_DENIED);
+    wrong |= show("explain, more values", explain_wide, bare, LEMONDARTS_STACK_EXPLAIN, LEMONDARTS_TOO_MANY_ROWS);
     wrong |= show("new_board", new_board, bare, LEMONDARTS_STACK_CALL, LEMONDARTS_DONE);
     wrong |= show("put_on", put_on, bare, LEMONDARTS_STACK_LOAD, LEMONDARTS_DONE);
     wrong |= show("action", action, bare, LEMONDARTS_STACK_CALL, LEMONDARTS_DONE);

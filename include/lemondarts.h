@@ -1,17 +1,18 @@
-/* Lemondarts: rules as text, rule sheets, tables and the board, for C and C++.
+/* Lemondarts: rules as text, rule sheets, tables, denials explained and the board, for C and C++.
  *
  * What can be linked today is liblemondarts.a, a static archive for x86-64 Linux (`rt staticlib lemondarts` writes it to target/staticlib/,
  * `make install` installs it). It needs no other library but memcpy, memmove and memset, and allocates nothing.
  *
  * What holds for every call:
- * - It answers every input. A call that is refused or denied leaves the board and the output bytes as they were.
+ * - It answers every input. A call that is refused leaves the board and the output as they were, and so does a denied action.
  * - A pointer comes with its length in elements. The pointer must not be null, even where the length is 0, and that many elements must be
  *   readable, and writable where the parameter is not const.
  * - The areas lent to one call must not overlap. No call keeps a pointer.
- * - Bytes need no alignment; `values` is aligned as a uint64_t, to 8 bytes, `actions` as a uint16_t, to 2.
+ * - Bytes need no alignment; `values`, and `place` of lemondarts_explain, are aligned as uint64_t, to 8 bytes, `actions` of lemondarts_read_text as
+ *   uint16_t, to 2.
  * - Threads: nothing is kept between calls, so calls on different boards and areas may run at once. Calls on one board, or with one work area,
  *   come one after the other: the caller holds a lock.
- * - Stack: compiling and joining take some 39 KiB, loading and putting on some 3.2 KiB, the others under 1 KiB;
+ * - Stack: compiling, joining and explaining take some 40 KiB, loading and putting on some 3.2 KiB, the others under 1 KiB;
  *   reading a text some 33 KiB for the deepest that 1,024 bytes can say, 6.5 KiB for one that gives a sheet.
  *   LEMONDARTS_STACK_.. below is what to plan for; examples/stack.c measures it.
  * - Nothing else is asked of the caller: the contracts of the calls have no precondition.
@@ -33,20 +34,22 @@
  * - PATCH, where neither is so: stack, time, comments.
  */
 #define LEMONDARTS_VERSION_MAJOR 4
-#define LEMONDARTS_VERSION_MINOR 3
+#define LEMONDARTS_VERSION_MINOR 4
 #define LEMONDARTS_VERSION_PATCH 0
-#define LEMONDARTS_VERSION "4.3.0"
+#define LEMONDARTS_VERSION "4.4.0"
 
 /* Lengths. An area may be longer; what stands behind these lengths is not touched. */
 #define LEMONDARTS_RECORD 16     /* a board's record, in bytes */
 #define LEMONDARTS_AREA 8256     /* a board's area, in bytes: 1,032 for each of 8 places */
 #define LEMONDARTS_TABLE 1032    /* the output of compiling and joining, in bytes: the longest table */
-#define LEMONDARTS_WORK 65536    /* the work area of compiling and joining, in bytes */
-#define LEMONDARTS_VALUES 1024   /* the values of compiling and joining, in numbers of 64 bits */
+#define LEMONDARTS_WORK 65536    /* the work area of compiling, joining and explaining, in bytes */
+#define LEMONDARTS_VALUES 1024   /* the values of compiling, joining and explaining, in numbers of 64 bits */
+#define LEMONDARTS_LIST_PLACE 1  /* the output of explaining, in numbers of 64 bits: a place in the list of actions, not one of a board */
 
 /* Stack, in bytes: at most this much in a call, rounded up, without what the caller and an interrupt take. */
 #define LEMONDARTS_STACK_COMPILE 49152 /* lemondarts_compile */
 #define LEMONDARTS_STACK_JOIN 49152    /* lemondarts_join */
+#define LEMONDARTS_STACK_EXPLAIN 49152 /* lemondarts_explain */
 #define LEMONDARTS_STACK_TEXT 40960    /* lemondarts_read_text */
 #define LEMONDARTS_STACK_LOAD 4096     /* lemondarts_load, lemondarts_put_on */
 #define LEMONDARTS_STACK_CALL 1024     /* the other calls */
@@ -107,7 +110,7 @@
 #define LEMONDARTS_ROWS(answer) ((unsigned)((uint64_t)(answer) >> 48 & 65535u))     /* a table's number of rows, 1 to 64 */
 #define LEMONDARTS_NODES(answer) ((unsigned)((uint64_t)(answer) >> 48 & 65535u))    /* of a done read_text: the sheet's number of nodes, 1 to 64 */
 
-/* Whether a call other than lemondarts_action is done. */
+/* Whether a call other than lemondarts_action is done. Of lemondarts_explain: whether no action of the list is denied. */
 #define LEMONDARTS_OK(answer) (LEMONDARTS_NUMBER(answer) == LEMONDARTS_DONE)
 
 /* Whether lemondarts_action permits: the number is 0, whatever watched rules the action fulfils. Do not ask `if (!answer)`: the answer to a
@@ -128,7 +131,7 @@
 
 /* Numbers of answers, and what to do. */
 #define LEMONDARTS_DONE 0u
-#define LEMONDARTS_DENIED 255u           /* do not carry the action out */
+#define LEMONDARTS_DENIED 255u           /* do not carry the action out; of lemondarts_explain: the list has such an action */
 #define LEMONDARTS_BAD_LENGTH 1u         /* sheet under 10 bytes, or its total is not its length: send the whole sheet */
 #define LEMONDARTS_BAD_COUNTS 2u         /* actions not 1 to 16, nodes not 1 to 64, or tables to join not 2 to 8: correct the count, or split the sheet */
 #define LEMONDARTS_BAD_AREAS 3u          /* action or node list misplaced: correct the offsets in the header */
@@ -140,7 +143,7 @@
 #define LEMONDARTS_TOO_MANY_ROWS 9u      /* over 64 rows: simplify the node, or join fewer tables */
 #define LEMONDARTS_MALFORMED 10u         /* table of wrong length, header or entry, or bytes behind those to join: compile or send it again */
 #define LEMONDARTS_NOT_CANONICAL 11u     /* rows misnumbered, unmet or alike: compile the sheet again, do not repair the table */
-#define LEMONDARTS_NO_ACTION 12u         /* the action is not in the rules' list: correct the number */
+#define LEMONDARTS_NO_ACTION 12u         /* the action, or one of the list to explain, is not in the rules' list: correct the number */
 #define LEMONDARTS_NO_PLACE 13u          /* the place is not below 8: correct the number */
 #define LEMONDARTS_SHORT_AREA 14u        /* a lent area, or the record, is too short: lend the length above */
 #define LEMONDARTS_PLACE_EMPTY 21u       /* nothing to take off */
@@ -151,7 +154,8 @@
 #define LEMONDARTS_TEXT_TOO_LONG 31u     /* a text over 1,024 bytes: shorten it, or split the rule */
 #define LEMONDARTS_BAD_TEXT 32u          /* the text is not in the language: correct this word, or complete the rule */
 #define LEMONDARTS_TOO_MANY_NODES 33u    /* a text of over 64 nodes: shorten it, or split the rule */
-#define LEMONDARTS_WATCHED_TABLE 34u     /* a watched table among those to join: leave it out, and put it on a place of its own */
+#define LEMONDARTS_WATCHED_TABLE 34u     /* a watched table among those to join: leave it out, and put it on a place of its own; or a watched sheet to
+                                          * explain: it denies nothing */
 
 /* A short text for the number of an answer, for logs. */
 static inline const char *lemondarts_refusal_text(unsigned number) {
@@ -168,7 +172,7 @@ static inline const char *lemondarts_refusal_text(unsigned number) {
     case LEMONDARTS_TOO_MANY_ROWS: return "the node, or the join, needs over 64 rows";
     case LEMONDARTS_MALFORMED: return "the table's length, header or an entry is wrong";
     case LEMONDARTS_NOT_CANONICAL: return "the table's rows are misnumbered, not all met, or two are alike";
-    case LEMONDARTS_NO_ACTION: return "the action is not in the rules' list";
+    case LEMONDARTS_NO_ACTION: return "an action is not in the rules' list";
     case LEMONDARTS_NO_PLACE: return "the place is not below 8";
     case LEMONDARTS_SHORT_AREA: return "a lent area is too short";
     case LEMONDARTS_PLACE_EMPTY: return "the place is empty";
@@ -179,7 +183,7 @@ static inline const char *lemondarts_refusal_text(unsigned number) {
     case LEMONDARTS_TEXT_TOO_LONG: return "the text is over 1024 bytes";
     case LEMONDARTS_BAD_TEXT: return "the word does not fit, or the text ends too soon";
     case LEMONDARTS_TOO_MANY_NODES: return "the text has over 64 nodes";
-    case LEMONDARTS_WATCHED_TABLE: return "a watched table is among those to join";
+    case LEMONDARTS_WATCHED_TABLE: return "a watched table is among those to join, or a watched sheet is to be explained";
     case LEMONDARTS_DENIED: return "denied";
     default: return "unknown number";
     }
@@ -218,6 +222,21 @@ uint64_t lemondarts_compile(const uint8_t *sheet, size_t sheet_len, uint8_t *out
 uint64_t lemondarts_join(size_t count, const uint8_t *tables, size_t tables_length, uint8_t *out, size_t out_length,
                          uint8_t *work, size_t work_length, uint64_t *values, size_t values_length);
 
+/* Explains a denial: finds the first action of a list that a rule denies, and names the part of the rule that denies it. Writes no table.
+ * Reads `sheet`, any bytes, enforced, and `actions`, any bytes and any number of them, also none: a byte an action, its number. `place` is one
+ * number or more, aligned to 8 bytes; `work` and `values` are as for lemondarts_compile.
+ * Done: no action of the list is denied; the value is 0. Denied (255): place[0] is the place in the list, from 0, of the first denied action, and
+ * what stands behind it is unchanged. The value is the node: of the policy's own node, which is the last, and those reached from it through And
+ * alone, the lowest-numbered one that is violated by the actions up to and with the denied one. It is no And. Refused, or done: `place` is unchanged.
+ * The first refusal in the order 14; 1 to 9 as lemondarts_compile answers them; 34 where the sheet is watched; 12 where a number anywhere in the
+ * list, also behind the denial, is no action of the sheet. For 4 to 9 the value is the node.
+ * `work` and `values` may hold anything. On return they are zero over the lengths above, and unchanged where the answer is 14.
+ * A rule on a board is moved by permitted actions alone. To have a denial of the board explained, list the actions that were permitted since the
+ * rule was put on, and the denied one behind them.
+ */
+uint64_t lemondarts_explain(const uint8_t *sheet, size_t sheet_length, const uint8_t *actions, size_t actions_length, uint64_t *place,
+                            size_t place_length, uint8_t *work, size_t work_length, uint64_t *values, size_t values_length);
+
 /* Reads a rule typed as text, and writes its sheet.
  * Reads `text`, any bytes, and `actions`, for each action the set of propositions that it satisfies, aligned to 2 bytes. `sheet` is 362 bytes or
  * more. The text is words of lower-case letters and digits, parted by one or more blanks or newlines, which may also stand at either end. It is
@@ -231,7 +250,7 @@ uint64_t lemondarts_join(size_t count, const uint8_t *tables, size_t tables_leng
  * and K is 1 to 60 without leading zero. `enforce always after now p0 holds not p1` says: no p1 right after p0.
  * Done: the sheet is at the front of `sheet`, LEMONDARTS_SHEET_LENGTH bytes, and what stands behind it is unchanged; its action list is `actions`,
  * and its nodes stand in the order of the text, parts before their whole. The value is its length, with ACTIONS and NODES. It can be given to
- * lemondarts_compile, which may refuse it by 6 (the k of Fulfilling), 8 or 9. Refused: `sheet` is unchanged. The first refusal in the order
+ * lemondarts_compile and lemondarts_explain, which may refuse it by 6 (the k of Fulfilling), 8 or 9. Refused: `sheet` is unchanged. The first refusal in the order
  * 14, 2 (no action, or over 16), 31, 32, 33. For 32 the value is the number of words before the first that does not fit, or of all words where
  * the text ends too soon.
  */

@@ -1,9 +1,11 @@
 //! Times of the library's calls, as ratios to the reference in the same run; of actions also to a
 //! plain scan of the bytes that the check of the board has to read, and to the same call written by
 //! hand in C, plain and with SSE2; of reading a text also to compiling its sheet; of minimisation and of
-//! joining to OpenFst. Arguments: the programs built from minimise.cc and intersect.cc, if there are any.
+//! joining to OpenFst; of explaining to compiling the sheet. Arguments: the programs built from minimise.cc and
+//! intersect.cc, if there are any.
 
 mod by_hand;
+mod denials;
 mod joins;
 #[allow(dead_code)] // not every call is timed
 #[path = "../../tests/fuzz/src/library.rs"]
@@ -283,4 +285,5 @@ fn main() {
     openfst::compare("1,024 values, refused 9", program.as_deref(), &[all_values]);
 
     joins::all(programs.next().as_deref());
+    denials::all();
 }

@@ -1,4 +1,4 @@
-//! The library's eight calls on lent areas, answered by the reference. An answer is one number of
+//! The library's nine calls on lent areas, answered by the reference. An answer is one number of
 //! 64 bits: number, value, actions, rows (of a text: nodes), 16 bits each from the lowest.
 
 use crate::board::{Board, Verdict};
@@ -6,7 +6,7 @@ use crate::table::{self, Table, LARGEST};
 use crate::text::OUTPUT;
 use crate::{at, Refusal};
 
-/// Lengths of the work areas of compiling and joining.
+/// Lengths of the work areas of compiling, joining and explaining.
 pub const WORK: usize = 65_536;
 pub const VALUES: usize = 1024;
 /// The number of a denied action.
@@ -53,16 +53,38 @@ pub fn join(count: usize, tables: &[u8], out: &mut [u8], work: &mut [u8], values
 
 /// Writes the table that is made, or answers the refusal; 14 before anything is made.
 fn make(out: &mut [u8], work: &mut [u8], values: &mut [u64], made: impl FnOnce() -> Result<Vec<u8>, Refusal>) -> u64 {
-    if out.len() < LARGEST || work.len() < WORK || values.len() < VALUES {
+    if out.len() < LARGEST || !clear(work, values) {
         return answer(14, 0);
     }
-    work[..WORK].fill(0);
-    values[..VALUES].fill(0);
     match made() {
         Err(refusal) => answer(refusal.number, refusal.spot),
         Ok(bytes) => {
             out[..bytes.len()].copy_from_slice(&bytes);
             accepted(table::shape(&bytes).expect("a table that is made passes 10"))
+        }
+    }
+}
+
+/// Zeroes both work areas over their lengths; not where one is too short.
+fn clear(work: &mut [u8], values: &mut [u64]) -> bool {
+    let long_enough = work.len() >= WORK && values.len() >= VALUES;
+    if long_enough {
+        work[..WORK].fill(0);
+        values[..VALUES].fill(0);
+    }
+    long_enough
+}
+
+pub fn explain(sheet: &[u8], list: &[u8], place: &mut [u64], work: &mut [u8], values: &mut [u64]) -> u64 {
+    if place.is_empty() || !clear(work, values) {
+        return answer(14, 0);
+    }
+    match crate::explain(sheet, list) {
+        Err(refusal) => answer(refusal.number, refusal.spot),
+        Ok(None) => answer(0, 0),
+        Ok(Some(denial)) => {
+            place[0] = denial.place as u64;
+            answer(DENIED, denial.node as u16)
         }
     }
 }

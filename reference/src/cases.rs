@@ -2,6 +2,7 @@
 //! This file has those of "A small roastery", which are stated here and nowhere else.
 
 pub mod counted;
+pub mod denials;
 pub mod histories;
 pub mod house;
 pub mod joins;
@@ -23,11 +24,12 @@ pub enum Stated {
     Refused(u8, u8),
 }
 
-/// The areas that compiling and joining are lent: as long as it asks, or one of them shorter by one.
+/// The areas that compiling, joining and explaining are lent: as long as it asks, or one of them shorter by one. The
+/// output is a table, or the place of a denial.
 #[derive(Clone, Copy, Debug, PartialEq, Eq)]
 pub enum Lent {
     Whole = 0,
-    ShortTable = 1,
+    ShortOutput = 1,
     ShortWork = 2,
     ShortValues = 3,
 }

@@ -1,7 +1,8 @@
-//! The corpus: the inputs of the programs second_cases, load_cases, board_cases, text_cases and join_cases,
-//! each with the answer expected, and what the programs print. README.md describes its bytes.
+//! The corpus: the inputs of the programs second_cases, load_cases, board_cases, text_cases, join_cases and
+//! explain_cases, each with the answer expected, and what the programs print. README.md describes its bytes.
 
 pub mod calls;
+pub mod denials;
 pub mod joins;
 pub mod sheets;
 pub mod tables;
@@ -19,7 +20,7 @@ pub struct Corpus {
 }
 
 /// All of them.
-pub fn all() -> [Corpus; 5] {
+pub fn all() -> [Corpus; 6] {
     let sheets = sheets::all();
     let pool = sheets::tables_of(&sheets);
     [
@@ -28,6 +29,7 @@ pub fn all() -> [Corpus; 5] {
         calls::corpus(&pool),
         texts::corpus(&texts::all()),
         joins::corpus(&joins::all(&pool)),
+        denials::corpus(&denials::all()),
     ]
 }
 

@@ -51,6 +51,28 @@ pub unsafe extern "C" fn lemondarts_join(
 }
 
 #[no_mangle]
+pub unsafe extern "C" fn lemondarts_explain(
+    sheet: *const u8,
+    sheet_length: usize,
+    actions: *const u8,
+    actions_length: usize,
+    place: *mut u64,
+    place_length: usize,
+    work: *mut u8,
+    work_length: usize,
+    values: *mut u64,
+    values_length: usize,
+) -> u64 {
+    calls::explain(
+        from_raw_parts(sheet, sheet_length),
+        from_raw_parts(actions, actions_length),
+        from_raw_parts_mut(place, place_length),
+        from_raw_parts_mut(work, work_length),
+        from_raw_parts_mut(values, values_length),
+    )
+}
+
+#[no_mangle]
 pub unsafe extern "C" fn lemondarts_read_text(
     text: *const u8,
     text_length: usize,

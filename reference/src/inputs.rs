@@ -1,6 +1,7 @@
-//! Inputs of every sort, drawn: sheets, tables, joins and texts, and ways to damage bytes.
+//! Inputs of every sort, drawn: sheets, tables, joins, texts and lists of actions, and ways to damage bytes.
 
 pub mod joins;
+pub mod lists;
 pub mod sheets;
 pub mod tables;
 pub mod texts;

@@ -7,6 +7,7 @@ pub mod calls;
 pub mod cases;
 pub mod compile;
 pub mod corpus;
+pub mod explain;
 #[cfg(feature = "exports")]
 mod exports;
 pub mod generate;
@@ -22,11 +23,12 @@ pub mod values;
 
 pub use board::{Board, Verdict};
 pub use compile::compile;
+pub use explain::{explain, Denial};
 pub use join::join;
 pub use table::load;
 pub use text::read_text;
 
-/// A refusal of the compiler or of the reader of texts: its number and its spot (docs/FORMATS.md).
+/// A refusal of the compiler, of explaining or of the reader of texts: its number and its spot (docs/FORMATS.md).
 #[derive(Clone, Copy, Debug, PartialEq, Eq)]
 pub struct Refusal {
     pub number: u8,

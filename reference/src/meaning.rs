@@ -3,15 +3,19 @@
 use crate::sheet::Sheet;
 use std::collections::HashMap;
 
-/// Meanings over one sheet that passes 1 to 7. Verdicts already worked out are kept.
+/// Meanings over one sheet that passes 1 to 7. Verdicts already worked out are kept, for each node those on short
+/// sequences.
 pub struct Meaning<'a> {
     sheet: &'a Sheet,
-    known: HashMap<(usize, Vec<u8>), bool>,
+    known: Vec<HashMap<Vec<u8>, bool>>,
 }
+
+/// The longest sequence whose verdict is kept.
+const SHORT: usize = 64;
 
 impl<'a> Meaning<'a> {
     pub fn new(sheet: &'a Sheet) -> Meaning<'a> {
-        Meaning { sheet, known: HashMap::new() }
+        Meaning { sheet, known: vec![HashMap::new(); sheet.nodes.len()] }
     }
 
     /// Whether an action satisfies a formula node.
@@ -29,11 +33,14 @@ impl<'a> Meaning<'a> {
 
     /// Whether a sequence satisfies a policy node.
     pub fn satisfied(&mut self, node: usize, trace: &[u8]) -> bool {
-        if let Some(&verdict) = self.known.get(&(node, trace.to_vec())) {
+        if trace.len() > SHORT {
+            return self.work_out(node, trace);
+        }
+        if let Some(&verdict) = self.known[node].get(trace) {
             return verdict;
         }
         let verdict = self.work_out(node, trace);
-        self.known.insert((node, trace.to_vec()), verdict);
+        self.known[node].insert(trace.to_vec(), verdict);
         verdict
     }
 

@@ -11,7 +11,7 @@ use reference::{calls, load, Refusal};
 /// Compiles a case with the areas that it lends.
 fn answer_to(case: &Case) -> Result<Vec<u8>, Refusal> {
     let short = |lent, length: usize| if case.lent == lent { length - 1 } else { length };
-    let mut out = vec![0; short(Lent::ShortTable, 1032)];
+    let mut out = vec![0; short(Lent::ShortOutput, 1032)];
     let mut work = vec![1; short(Lent::ShortWork, calls::WORK)];
     let mut values = vec![1; short(Lent::ShortValues, calls::VALUES)];
     let answer = calls::compile(&case.sheet, &mut out, &mut work, &mut values);

@@ -1,6 +1,6 @@
 //! The corpus in the repository is what the command writes, and covers what it is for.
 
-use reference::corpus::{all, joins, sheets, texts};
+use reference::corpus::{all, denials, joins, sheets, texts};
 use reference::sheet::Sheet;
 use std::collections::HashSet;
 use std::path::Path;
@@ -73,4 +73,22 @@ fn joins_cover_counts_and_answers() {
     let several = records.iter().filter(|record| record.table.len() > 8 && record.table[4] > 4).count();
     assert!(several >= 10, "{several}");
     assert!(records.iter().all(|record| record.tables.len() <= 8300));
+}
+
+/// Every answer is there at least eight times, the compiler's four times, denials at many nodes and places. No denial is at the place that stands
+/// for none.
+#[test]
+fn denials_cover_nodes_and_answers() {
+    let records = denials::all();
+    for number in (1..=9).chain([0, 12, 14, 34, 255]) {
+        let with = records.iter().filter(|record| record.answer[0] == number).count();
+        assert!(with >= if matches!(number, 1..=9) { 4 } else { 8 }, "answer {number}: {with}");
+    }
+    let denied: Vec<&denials::Record> = records.iter().filter(|record| record.answer[0] == 255).collect();
+    let nodes: HashSet<u8> = denied.iter().map(|record| record.answer[1]).collect();
+    let places: HashSet<u64> = denied.iter().map(|record| record.place).collect();
+    assert!(nodes.len() >= 15 && places.len() >= 12, "{nodes:?}, {places:?}");
+    assert!(denied.iter().any(|record| record.place > 65_535));
+    assert!(records.iter().all(|record| (record.answer[0] == 255) == (record.place != denials::FRESH)));
+    assert!(records.iter().all(|record| record.sheet.len() <= 400 && record.rest.len() <= 400));
 }

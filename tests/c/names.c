@@ -38,6 +38,7 @@ int main(void) {
     uint64_t read = (uint64_t)64 << 48 | (uint64_t)16 << 32 | (uint64_t)362 << 16;
     uint64_t unread = (uint64_t)340 << 16 | LEMONDARTS_BAD_TEXT;
     uint64_t joined = (uint64_t)21 << 48 | (uint64_t)5 << 32 | (uint64_t)LEMONDARTS_ENFORCED << 16;
+    uint64_t explained = (uint64_t)63 << 16 | LEMONDARTS_DENIED;
 
     snprintf(version, sizeof version, "%d.%d.%d", LEMONDARTS_VERSION_MAJOR, LEMONDARTS_VERSION_MINOR, LEMONDARTS_VERSION_PATCH);
     check("the version's text", strcmp(version, LEMONDARTS_VERSION) == 0);
@@ -55,6 +56,7 @@ int main(void) {
     check("a text that was not is refused, and has its word", !LEMONDARTS_OK(unread) && LEMONDARTS_NUMBER(unread) == 32 && LEMONDARTS_VALUE(unread) == 340);
     check("a joined table is done, and has its length", LEMONDARTS_OK(joined) && LEMONDARTS_TABLE_LENGTH(joined) == 113);
     check("the tables of a join", LEMONDARTS_FEWEST_JOINED == 2 && LEMONDARTS_MOST_JOINED == LEMONDARTS_PLACES);
+    check("an explained denial is not done, and has its node", !LEMONDARTS_OK(explained) && LEMONDARTS_VALUE(explained) == LEMONDARTS_MOST_NODES - 1);
     check("the lengths", LEMONDARTS_AREA == LEMONDARTS_PLACES * LEMONDARTS_TABLE && LEMONDARTS_RECORD == 2 * LEMONDARTS_PLACES
           && LEMONDARTS_TABLE == LEMONDARTS_TABLE_HEADER + LEMONDARTS_MOST_ACTIONS * LEMONDARTS_MOST_ROWS
           && LEMONDARTS_SHEET == LEMONDARTS_SHEET_HEADER + LEMONDARTS_SHEET_ACTION * LEMONDARTS_MOST_ACTIONS + LEMONDARTS_SHEET_NODE * LEMONDARTS_MOST_NODES);

@@ -1,2 +1,2 @@
 pub mod CaseNumbers
-pub mod CompileNumbers
+pub mod ByCase

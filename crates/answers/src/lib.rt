@@ -1,10 +1,12 @@
-// Answers as one number of 64 bits: of the loader, the compiler, joining, the reader of rule texts and the board's calls.
+// Answers as one number of 64 bits: of the loader, the compiler, joining, explaining, the reader of rule texts and the board's calls.
 mod compiling;
+mod explanations;
 mod joins;
 mod numbers;
 mod texts;
 
 pub use compiling::compile_number;
+pub use explanations::explain_number;
 pub use joins::join_number;
 pub use numbers::act_answer;
 pub use numbers::load_number;

@@ -1,7 +1,7 @@
 -- From the slots to the policies: where the slots of the nodes before n hold the rows of their machines, those nodes are inside the limits with the
 -- rows of their policies, and a machine over a limit is a node over it.
 -- Assumes nothing.
-use mathlib.Core.Path.{_≡_, refl, sym, _∙_, ap, subst}
+use mathlib.Core.Path.{_≡_, sym, _∙_, subst}
 use mathlib.Core.List.{List, []}
 use Prim.Native.Nat.{ℕ, zero, suc, _*_, _≤_, _<_}
 use native.Mathlib.Omega.{arith}

@@ -3,5 +3,6 @@ pub mod SameCodes
 pub mod NodeRuns
 pub mod SlotTables
 pub mod BuiltNodes
-pub mod Answers
+pub mod Standing
+pub mod WrittenTables
 pub mod Judgements

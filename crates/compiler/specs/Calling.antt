@@ -5,10 +5,7 @@ use Prim.Native.Nat.{ℕ}
 use Rattle.table.specs.Answer.{Answer, accepted, refused, modeNumber}
 use Rattle.making.specs.Making.{MakesInto, WritesTo}
 use Rattle.syntax.specs.Faults.{numberOf, spotOf}
-use Rattle.trace.specs.declared.Mode.{Mode}
-use Rattle.syntax.specs.declared.Sheet.{Sheet}
-use Rattle.syntax.specs.declared.TypedNode.{TypedNode}
-use Rattle.compiler.specs.Compiles.{Builds, Compiles}
+use Rattle.compiler.specs.Compiles.{Compiles}
 use Rattle.compiler.specs.declared.Compiled.{Compiled}
 use Rattle.compiler.specs.declared.Compiled.the-variants.{Table, ShortArea, Faulty, TooManyValues, TooManyRows}
 
@@ -26,7 +23,3 @@ CompilesInto bytes out work values = MakesInto (Compiles bytes 1024 64) out work
 -- What compiling with any limits gives: the answer, and the table's bytes at the front of the output.
 abbrev pub CompilesTo : List ℕ → (valueLimit rowLimit : ℕ) → Answer → (before behind : List ℕ) → Type 0
 CompilesTo bytes valueLimit rowLimit = WritesTo (Compiles bytes valueLimit rowLimit)
-
--- The same of a sheet that passes checks 1 to 7.
-abbrev pub BuildsTo : Mode → Sheet → List TypedNode → (valueLimit rowLimit : ℕ) → Answer → (before behind : List ℕ) → Type 0
-BuildsTo mode sheet types valueLimit rowLimit = WritesTo (Builds mode sheet types valueLimit rowLimit)

@@ -1,3 +1,4 @@
 pub mod Limits
 pub mod Compiles
+pub mod Building
 pub mod Calling

@@ -1,52 +1,14 @@
 // The public call.
 use crate::Compiled;
+use crate::NodesBuilt;
+use crate::building::build_sheet;
 use making::long_enough;
 use making::write_table;
-use rule_rows::AllBuilt;
-use sheet::SheetFound;
-use syntax::Sheet;
-use syntax::TypedNode;
-use trace::Mode;
 ghost use mathlib.Core.Path.{_≡_};
 ghost use Prim.Native.Nat.{_≤_};
 ghost use lib.ListN.{length};
-ghost use Rattle.syntax.specs.Typed.{SoundSheet};
 ghost use Rattle.making.specs.Making.{Lent, Zeroed};
-ghost use Rattle.compiler.specs.Calling.{answerOf, BuildsTo, CompilesTo, CompilesInto};
-
-// Builds the rows of a sound sheet's nodes, and writes the table of the last one.
-fn build_table(
-    mode: Mode,
-    sheet: Sheet,
-    types: [TypedNode; 64],
-    out: &mut [u8],
-    work: &mut [u8],
-    values: &mut [u64],
-    value_limit: usize,
-    row_limit: usize,
-) -> Compiled
-    requires { ⌜ SoundSheet mode sheet types ⌝ }
-    requires { ⌜ Lent «value_limit» «row_limit» (now out) (now work) (now values) ⌝ }
-    ensures { λ r. ⌜ BuildsTo mode sheet types «value_limit» «row_limit» (answerOf r) (now (out .entry)) (now (out .exit)) ⌝ }
-{
-    let rules = node_rules::rules_of(sheet, types);
-    let count = sheet.count;
-    let actions = sheet.actions;
-    match rule_rows::build_all(rules, count, actions, value_limit, row_limit, work, values) {
-        AllBuilt::ValuesAt(n) => Compiled::TooManyValues(n),
-        AllBuilt::RowsAt(n) => Compiled::TooManyRows(n),
-        AllBuilt::Rows(rows) => {
-            let from = (count - 1) * 1024;
-            let to = from + rows * actions;
-            write_table(mode, actions, rows, &work[from..to], out);
-            Compiled::Table {
-                mode,
-                actions,
-                rows,
-            }
-        }
-    }
-}
+ghost use Rattle.compiler.specs.Calling.{answerOf, CompilesTo, CompilesInto};
 
 // Compiles a sheet with any limits.
 fn compile_with(
@@ -60,14 +22,24 @@ fn compile_with(
     requires { ⌜ Lent «value_limit» «row_limit» (now out) (now work) (now values) ⌝ }
     ensures { λ r. ⌜ CompilesTo (now (sheet .entry)) «value_limit» «row_limit» (answerOf r) (now (out .entry)) (now (out .exit)) ⌝ }
 {
-    let judged = sheet::judge(sheet);
-    let found = judged.found;
-    match found {
-        SheetFound::NotSound(fault) => Compiled::Faulty(fault),
-        SheetFound::Policy(mode) => {
-            let read = judged.sheet;
-            let types = judged.types;
-            build_table(mode, read, types, out, work, values, value_limit, row_limit)
+    let standing = build_sheet(sheet, work, values, value_limit, row_limit);
+    let built = standing.built;
+    match built {
+        NodesBuilt::NotSound(fault) => Compiled::Faulty(fault),
+        NodesBuilt::ValuesAt(n) => Compiled::TooManyValues(n),
+        NodesBuilt::RowsAt(n) => Compiled::TooManyRows(n),
+        NodesBuilt::Rows { mode, rows } => {
+            let read = standing.sheet;
+            let count = read.count;
+            let actions = read.actions;
+            let from = (count - 1) * 1024;
+            let to = from + rows * actions;
+            write_table(mode, actions, rows, &work[from..to], out);
+            Compiled::Table {
+                mode,
+                actions,
+                rows,
+            }
         }
     }
 }
@@ -91,7 +63,7 @@ fn compile_in(sheet: &[u8], out: &mut [u8], work: &mut [u8], values: &mut [u64])
 pub fn compile(sheet: &[u8], out: &mut [u8], work: &mut [u8], values: &mut [u64]) -> Compiled
     ensures { λ r. ⌜ CompilesInto (now (sheet .entry)) (now (out .entry)) (now (work .entry)) (now (values .entry)) (answerOf r) (now (out .exit)) (now (work .exit)) (now (values .exit)) ⌝ }
 {
-    if long_enough(out.len(), work.len(), values.len()) {
+    if long_enough(1032, out.len(), work.len(), values.len()) {
         return compile_in(sheet, out, &mut work[..65536], &mut values[..1024]);
     }
     Compiled::ShortArea

@@ -4,7 +4,7 @@ ghost use mathlib.Core.Path.{_≡_};
 ghost use mathlib.Core.Bool.{true, false, cond, _&&_};
 ghost use Prim.Native.Nat.{_+_, _*_, _<_, _≤_, _%_, _^_};
 ghost use mathlib.Core.List.{_++_};
-ghost use lib.ListN.{length, getD, set, drop};
+ghost use lib.ListN.{length, getD, set, drop, replicate};
 ghost use Rattle.io.specs.Counts.{Counts};
 ghost use Rattle.corpus.specs.Numbers.{wordAt};
 ghost use Rattle.corpus.specs.Progress.{Behind};
@@ -193,6 +193,57 @@ pub fn written(out: &[u8], front: &[u8], fresh: &[u8]) -> bool
         return check::same(&out[size..], &fresh[size..]);
     }
     false
+}
+
+// What stands in each area before a call.
+pub const FRESH: u8 = 170;
+
+// Work areas to lend.
+pub fn room_for_work() -> [u8; 65536]
+    ensures { λ r. ⌜ 65536 ≡ length r ⌝ }
+{
+    [FRESH; 65536]
+}
+
+pub fn room_for_values() -> [u64; 1024]
+    ensures { λ r. ⌜ 1024 ≡ length r ⌝ }
+{
+    [170u64; 1024]
+}
+
+// What a call leaves in its work areas: what was there where an area is too short, else zeros.
+pub fn left_by(short: bool) -> u8
+    ensures { λ r. ⌜ r ≡ cond short 170 0 ⌝ }
+{
+    if short { FRESH } else { 0 }
+}
+
+// Whether all bytes of an area are this one.
+pub fn all_bytes(area: &[u8], byte: u8) -> bool
+    ensures { λ r. ⌜ (r ≡ true → now (area .entry) ≡ replicate (length (now (area .entry))) byte) ⌝ }
+{
+    let mut k = 0;
+    while k < area.len() {
+        if area[k] != byte {
+            return false;
+        }
+        k += 1;
+    }
+    true
+}
+
+// Whether all numbers of an area are this one.
+pub fn all_numbers(area: &[u64], number: u64) -> bool
+    ensures { λ r. ⌜ (r ≡ true → now (area .entry) ≡ replicate (length (now (area .entry))) number) ⌝ }
+{
+    let mut k = 0;
+    while k < area.len() {
+        if area[k] != number {
+            return false;
+        }
+        k += 1;
+    }
+    true
 }
 
 // Adds to a count, where there is one of that number.

@@ -6,9 +6,6 @@ ghost use lib.ListN.{length};
 // The counts: answers by number, and in the last slot the joins on which something is not as expected.
 const DISAGREEMENTS: usize = 35;
 
-// What stands in each area before a call.
-const FRESH: u8 = 170;
-
 fn room_for_counts() -> [u64; 36]
     ensures { λ r. ⌜ 36 ≡ length r ⌝ }
 {
@@ -26,19 +23,7 @@ fn room_for_tables() -> [u8; 8300]
 fn room_for_table() -> [u8; 1100]
     ensures { λ r. ⌜ 1100 ≡ length r ⌝ }
 {
-    [FRESH; 1100]
-}
-
-fn room_for_work() -> [u8; 65536]
-    ensures { λ r. ⌜ 65536 ≡ length r ⌝ }
-{
-    [FRESH; 65536]
-}
-
-fn room_for_values() -> [u64; 1024]
-    ensures { λ r. ⌜ 1024 ≡ length r ⌝ }
-{
-    [170u64; 1024]
+    [corpus::FRESH; 1100]
 }
 
 // Makes the call. Where `short` is 1, 2 or 3 the area of the table, of the work or of the values is lent shorter by one than is asked for.
@@ -62,49 +47,20 @@ fn join(
     )
 }
 
-// Whether all bytes of an area are this one.
-fn all_bytes(area: &[u8], byte: u8) -> bool {
-    let mut k = 0;
-    while k < area.len() {
-        if area[k] != byte {
-            return false;
-        }
-        k += 1;
-    }
-    true
-}
-
-// Whether all numbers of an area are this one.
-fn all_numbers(area: &[u64], number: u64) -> bool {
-    let mut k = 0;
-    while k < area.len() {
-        if area[k] != number {
-            return false;
-        }
-        k += 1;
-    }
-    true
-}
-
-// What an answer leaves in the work areas: 14 what was there, each other one zeros.
-fn left_by(answer: u64) -> u8 {
-    if answer == 14 { FRESH } else { 0 }
-}
-
 // Joins and compares.
 fn agrees(short: usize, count: usize, tables: &[u8], expected: &[u8], counts: &mut [u64]) -> bool
     requires { ⌜ 4 ≤ length (now expected) ⌝ }
 {
     let fresh = room_for_table();
     let mut out = room_for_table();
-    let mut work = room_for_work();
-    let mut values = room_for_values();
+    let mut work = corpus::room_for_work();
+    let mut values = corpus::room_for_values();
     let answer = join(short, count, tables, &mut out, &mut work, &mut values);
     corpus::add(counts, (answer % 65536) as usize, 1);
-    let left = left_by(answer);
+    let left = corpus::left_by(answer == 14);
     let same = (answer as usize == corpus::answer_at(expected))
         & corpus::written(&out, &expected[4..], &fresh);
-    same & all_bytes(&work, left) & all_numbers(&values, left as u64)
+    same & corpus::all_bytes(&work, left) & corpus::all_numbers(&values, left as u64)
 }
 
 // Compares, where there is an answer to compare with.

@@ -119,7 +119,7 @@ pub fn join(
 ) -> Joined
     ensures { λ r. ⌜ JoinsInto count (now (tables .entry)) (now (out .entry)) (now (work .entry)) (now (values .entry)) (answerOf r) (now (out .exit)) (now (work .exit)) (now (values .exit)) ⌝ }
 {
-    if long_enough(out.len(), work.len(), values.len()) {
+    if long_enough(1032, out.len(), work.len(), values.len()) {
         return join_in(count, tables, out, &mut work[..65536], &mut values[..1024]);
     }
     Joined::ShortArea

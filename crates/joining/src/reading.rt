@@ -2,13 +2,11 @@
 use crate::Joined;
 use base::word;
 use table::Header;
-use trace::Mode;
+use table::is_watched;
 ghost use mathlib.Core.Path.{_≡_};
 ghost use mathlib.Core.List.{_++_};
 ghost use Prim.Native.Nat.{_-_, _≤_, _<_};
 ghost use lib.ListN.{length, replicate};
-ghost use Rattle.base.specs.Build.{Decides};
-ghost use Rattle.table.specs.Answer.{modeNumber};
 ghost use Rattle.joining.specs.Tables.{FitBefore};
 ghost use Rattle.joining.specs.Reading.{FrontChecked, AllChecked, LaidOut};
 
@@ -22,16 +20,6 @@ pub enum Checked {
 pub enum Agreement {
     One(usize),
     Mixed,
-}
-
-// Whether a type is that of watched tables.
-fn is_watched(mode: Mode) -> bool
-    ensures { λ r. ⌜ Decides (modeNumber mode ≡ 2) r ⌝ }
-{
-    match mode {
-        Mode::Watched => true,
-        Mode::Enforced => false,
-    }
 }
 
 // Checks 10, 11 and 34 of the table at the front of some bytes.

@@ -20,8 +20,8 @@ use Rattle.joining_laws.specs.Boards.{HoldsOn, Holds, AllEnforced, Stand
 use Rattle.joining_laws.proofs.SomeTrips.{or-none}
 use Rattle.joining_laws.proofs.BoardAnswers.{Told, unlisted, refuses, allows, since-listed, told}
 
--- what is permitted since, behind an answer
-abbrev sinceAfter : Bool → List ℕ → ℕ → List ℕ
+-- What is permitted since, behind an answer.
+abbrev pub sinceAfter : Bool → List ℕ → ℕ → List ℕ
 sinceAfter b since action = cond b (since ++ (action ∷ [])) since
 
 followed-from : (action : ℕ) (x : Standing) (table now : List ℕ) → followed action x ≡ rule table now
@@ -29,7 +29,8 @@ followed-from : (action : ℕ) (x : Standing) (table now : List ℕ) → followe
 followed-from action nothing table now e = no-rule e
 followed-from action (rule other before) table now e = (before, ap (λ (t : List ℕ). rule t before) (same-table e), sym (same-since e))
 
-holds-after : {on : ℕ → Standing} {tables : List (List ℕ)} {since : List ℕ} → HoldsOn on tables since → (action : ℕ) (b : Bool)
+-- What places hold behind an answer to an action.
+pub holds-after : {on : ℕ → Standing} {tables : List (List ℕ)} {since : List ℕ} → HoldsOn on tables since → (action : ℕ) (b : Bool)
     → HoldsOn (λ i. cond b (followed action (on i)) (on i)) tables (sinceAfter b since action)
 holds-after {on} {tables} {since} h action true =
     record {

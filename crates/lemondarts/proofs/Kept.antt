@@ -1,14 +1,13 @@
 -- What a call leaves in the record, read back, is the board that the wrapped call left.
 -- Assumes nothing.
-use mathlib.Core.Path.{_≡_, refl, sym, _∙_, ap, subst}
+use mathlib.Core.Path.{_≡_, refl, _∙_, ap}
 use mathlib.Core.Bool.{Bool, true, false, cond}
 use mathlib.Core.List.{List}
 use Prim.Native.Nat.{ℕ}
-use lib.ListN.{length}
 use Rattle.board.specs.Layout.{placeCount}
 use Rattle.board.specs.Places.{emptyBoard}
 use Rattle.board.specs.View.{viewOf, Change, stays, sets, moves, boardAfter}
-use Rattle.board.specs.Calls.{Reply, input, Calls, short, called, PutsOn, Putting, put-13, put-25, put-22, put-refused, put-23, put}
+use Rattle.board.specs.Calls.{Reply, Calls, short, called, PutsOn, Putting, put-13, put-25, put-22, put-refused, put-23, put}
 use Rattle.board.specs.Calls.{TakesOff, Taking, take-13, take-25, take-21, taken-off, Acts, Acting, act-25, act-24, act-12, act-denied, act-permitted}
 use Rattle.board.specs.declared.Board.{Board}
 use Rattle.board.proofs.PlaceLaws.{length-with-case, length-board-by}

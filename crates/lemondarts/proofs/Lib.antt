@@ -8,4 +8,5 @@ pub mod SessionLaws
 pub mod SessionTexts
 pub mod PutTexts
 pub mod JoinedTables
+pub mod ExplainedLists
 pub mod ReturnsDetermined

@@ -10,10 +10,13 @@ use Rattle.compiler_laws.proofs.Calls.{call-determined}
 use Rattle.histories.proofs.CallsDetermined.{makes-determined, puts-on-determined, takes-off-determined, acts-determined}
 use Rattle.text_laws.proofs.Outcomes.{text-determined}
 use Rattle.joining_laws.proofs.Outcome.{join-call-determined}
+use Rattle.explaining_laws.proofs.Outcome.{explain-call-determined}
 use Rattle.answers.specs.Numbers.{packedReply, packedAnswer}
 use Rattle.lemondarts.specs.Exports.{LoadReturns, Returns, short-record, called, recordAfter, NewBoardReturns, PutOnReturns, TakeOffReturns, ActionReturns}
 use Rattle.lemondarts.specs.Compiling.{CompileReturns}
 use Rattle.lemondarts.specs.Joining.{JoinReturns}
+use Rattle.answers.specs.Explanations.{packedExplanation}
+use Rattle.lemondarts.specs.Explaining.{ExplainReturns}
 use Rattle.answers.specs.Texts.{packedText}
 use Rattle.lemondarts.specs.Texts.{TextReturns}
 
@@ -31,6 +34,12 @@ pub join-returns-determined : {count : ℕ} {tables out work values : List ℕ} 
     → (returned ≡ other) × (out' ≡ out'') × (work' ≡ work'') × (values' ≡ values'')
 join-returns-determined p q =
     let (a, o, w, v) = join-call-determined (p .joins) (q .joins) in (p .number ∙ ap packedAnswer a ∙ sym (q .number), o, w, v)
+
+pub explain-returns-determined : {sheet list place work values : List ℕ} {returned other : ℕ} {place' work' values' place'' work'' values'' : List ℕ}
+    → ExplainReturns sheet list place work values returned place' work' values' → ExplainReturns sheet list place work values other place'' work'' values''
+    → (returned ≡ other) × (place' ≡ place'') × (work' ≡ work'') × (values' ≡ values'')
+explain-returns-determined p q =
+    let (a, o, w, v) = explain-call-determined (p .explains) (q .explains) in (p .number ∙ ap packedExplanation a ∙ sym (q .number), o, w, v)
 
 pub text-returns-determined : {text actions sheet : List ℕ} {returned other : ℕ} {sheet' sheet'' : List ℕ} → TextReturns text actions sheet returned sheet'
     → TextReturns text actions sheet other sheet'' → (returned ≡ other) × (sheet' ≡ sheet'')

@@ -1,13 +1,13 @@
 -- A record and an area used only through the exported calls are a board's history: what proofs/History.antt of the board says of every
 -- history holds of the answers that C reads.
 -- Assumes nothing.
-use mathlib.Core.Path.{_≡_, refl, sym, _∙_, subst}
+use mathlib.Core.Path.{_≡_, refl, sym, subst}
 use mathlib.Core.Bool.{Bool, true, false, cond}
 use mathlib.Core.List.{List, [], _∷_}
 use Prim.Native.Nat.{ℕ, _≤_}
 use native.Mathlib.Omega.{arith}
 use lib.ListN.{length}
-use Rattle.board.specs.Calls.{Reply, done, Makes, made, make-14}
+use Rattle.board.specs.Calls.{Reply, done, made, make-14}
 use Rattle.board.specs.Places.{emptyBoard}
 use Rattle.histories.specs.History.{Event, put-on, take-off, act, History, new}
 use Rattle.histories.specs.History as history

@@ -2,5 +2,6 @@ pub mod Exports
 pub mod Session
 pub mod Compiling
 pub mod Joining
+pub mod Explaining
 pub mod Texts
 pub mod TextTables

@@ -1,4 +1,4 @@
--- A call that makes a table: what it is lent, what it answers, and every byte that it leaves.
+-- A call with an output and two work areas, such as one that makes a table: what it is lent, what it answers, and every byte that it leaves.
 -- Assumes nothing.
 use mathlib.Core.Path.{_≡_}
 use mathlib.Core.List.{List, _∷_, _++_}
@@ -15,33 +15,47 @@ IsTable (refused number spot) = ⊥
 abbrev pub tableBytes : (type actions rows : ℕ) → List ℕ → List ℕ
 tableBytes type actions rows entries = type ∷ 0 ∷ actions ∷ 0 ∷ rows ∷ 0 ∷ 8 ∷ 0 ∷ entries
 
--- The lent areas are long enough: the output, the bytes and the numbers to work in.
-pub record Lengths (out work values : ℕ) : Type 0 where
-  pub output : 1032 ≤ out
+-- The lent areas are long enough: an output of at least so much, and the bytes and the numbers to work in.
+pub record Lengths (least out work values : ℕ) : Type 0 where
+  pub output : least ≤ out
   pub bytes : 65536 ≤ work
   pub numbers : 1024 ≤ values
 
-abbrev pub Areas : (out work values : List ℕ) → Type 0
-Areas out work values = Lengths (length out) (length work) (length values)
+abbrev pub AreasFor : (least : ℕ) (out work values : List ℕ) → Type 0
+AreasFor least out work values = Lengths least (length out) (length work) (length values)
 
--- The public call: 14 where an area is too short, and nothing is changed; else what it gives, an answer with a table's bytes, [] for a
--- refusal. These stand at the front of the output, and both work areas are zero over their lengths.
-pub data MakesInto (Gives : Answer → List ℕ → Type 0) (out work values : List ℕ) : Answer → List ℕ → List ℕ → List ℕ → Type 0 where
-  short : (Areas out work values → ⊥) → MakesInto Gives out work values (refused 14 0) out work values
-  makes : Areas out work values → (answer : Answer) (written : List ℕ) → Gives answer written
-      → MakesInto Gives out work values answer (written ++ drop (length written) out) (replicate 65536 0 ++ drop 65536 work)
+-- A table takes 1,032 bytes at most.
+abbrev pub Areas : (out work values : List ℕ) → Type 0
+Areas = AreasFor 1032
+
+-- A public call with an output and two work areas: `tooShort` where an area is too short, and nothing is changed; else what it gives, an answer with
+-- what is written, [] for a refusal. This stands at the front of the output, and both work areas are zero over their lengths.
+pub data AnswersInto {X : Type 0} (least : ℕ) (tooShort : X) (Gives : X → List ℕ → Type 0) (out work values : List ℕ) : X → List ℕ → List ℕ → List ℕ → Type 0 where
+  short : (AreasFor least out work values → ⊥) → AnswersInto least tooShort Gives out work values tooShort out work values
+  makes : AreasFor least out work values → (answer : X) (written : List ℕ) → Gives answer written
+      → AnswersInto least tooShort Gives out work values answer (written ++ drop (length written) out) (replicate 65536 0 ++ drop 65536 work)
       (replicate 1024 0 ++ drop 1024 values)
 
--- What making with any limits is lent: limits in their ranges, and areas that are long enough.
-pub record Lent (valueLimit rowLimit : ℕ) (out work values : List ℕ) : Type 0 where
+-- A public call that makes a table: 14 where an area is too short; else a table's bytes are written.
+abbrev pub MakesInto : (Answer → List ℕ → Type 0) → (out work values : List ℕ) → Answer → List ℕ → List ℕ → List ℕ → Type 0
+MakesInto = AnswersInto 1032 (refused 14 0)
+
+-- What building with any limits is lent: limits in their ranges, and work areas that are long enough.
+pub record Workable (valueLimit rowLimit : ℕ) (work values : List ℕ) : Type 0 where
   pub value-low : 1 ≤ valueLimit
   pub value-high : valueLimit ≤ 1024
   pub row-low : 1 ≤ rowLimit
   pub row-high : rowLimit ≤ 64
-  pub areas : Areas out work values
+  pub bytes : 65536 ≤ length work
+  pub numbers : 1024 ≤ length values
 
--- What it gives: the answer, and the table's bytes at the front of the output.
-pub record WritesTo (Gives : Answer → List ℕ → Type 0) (answer : Answer) (before behind : List ℕ) : Type 0 where
+-- What making a table with any limits is lent: the same, and room for the table.
+pub record Lent (valueLimit rowLimit : ℕ) (out work values : List ℕ) : Type 0 where
+  pub to-work : Workable valueLimit rowLimit work values
+  pub output : 1032 ≤ length out
+
+-- What it gives: the answer, and what is written at the front of the output.
+pub record WritesTo {X : Type 0} (Gives : X → List ℕ → Type 0) (answer : X) (before behind : List ℕ) : Type 0 where
   pub written : List ℕ
   pub gives : Gives answer written
   pub front : behind ≡ written ++ drop (length written) before

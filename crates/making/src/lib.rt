@@ -1,4 +1,4 @@
-// A call that makes a table: the lengths of what it is lent, and the bytes of a table.
+// A call with an output and two work areas: the lengths of what it is lent; and the bytes of a table.
 use trace::Mode;
 ghost use mathlib.Core.Path.{_≡_};
 ghost use mathlib.Core.List.{_++_};
@@ -8,11 +8,11 @@ ghost use Rattle.base.specs.Build.{Decides};
 ghost use Rattle.table.specs.Answer.{modeNumber};
 ghost use Rattle.making.specs.Making.{tableBytes, Lengths};
 
-// Whether an output and two work areas of these lengths are long enough.
-pub fn long_enough(out: usize, work: usize, values: usize) -> bool
-    ensures { λ r. ⌜ Decides (Lengths out work values) r ⌝ }
+// Whether an output and two work areas of these lengths are long enough, where the output takes `least`.
+pub fn long_enough(least: usize, out: usize, work: usize, values: usize) -> bool
+    ensures { λ r. ⌜ Decides (Lengths least out work values) r ⌝ }
 {
-    if out < 1032 {
+    if out < least {
         return false;
     }
     if work < 65536 {

@@ -1,28 +1,14 @@
 // Several rules as one table.
-use crate::output::say;
-use crate::output::say_number;
-use crate::output::say_refusal;
-use crate::parts::Place;
-use crate::refusals::say_rule;
-use crate::rule::room_for_bytes;
 use crate::rule::room_for_table;
-use crate::rule::room_for_values;
 use joining::Joined;
+use rule_files::Place;
+use rule_files::room_for_bytes;
+use rule_files::room_for_values;
+use rule_files::say;
+use rule_files::say_number;
+use rule_files::say_refusal;
+use rule_files::tell_watched;
 use trace::Mode;
-
-// 2: more rules than can be joined.
-pub(crate) fn tell_rules() {
-    say(
-        b"the file has over 8 rules, and 8 are the most: put the others into a second file, and on a second place\n",
-    );
-}
-
-// 34.
-fn tell_watched(watched: Place) {
-    say_rule(watched.rule, b", line ");
-    say_number(watched.line);
-    say(b": a watched rule denies nothing, and is not joined: put it on a place of its own\n");
-}
 
 // 8 and 9: how the joined table grows too large.
 fn tell_grown(rules: usize, grown: &[u8]) {
@@ -51,7 +37,10 @@ pub(crate) fn answer_joined(rules: usize, tables: &[u8], watched: Place) {
         Joined::NotCanonical => say_refusal(11, 0),
         Joined::WatchedTable => {
             say_refusal(34, 0);
-            tell_watched(watched);
+            tell_watched(
+                watched,
+                b", and is not joined: put it on a place of its own\n",
+            );
         }
         Joined::OtherActions => say_refusal(23, 0),
         Joined::TooManyValues => {

@@ -1,15 +1,8 @@
 // Reads a rule file from standard input and prints the rule's table, or its refusal and what to do. The first line of the file is the action list,
 // what stands behind it is the rule's text; or several texts, parted by lines `---`, whose tables are joined.
-mod actions;
-mod compiling;
 mod file;
 mod joined;
-mod nodes;
-mod output;
-mod parts;
-mod refusals;
 mod rule;
-mod words;
 
 // The buffer holds one byte more than the longest file: longer input fills it.
 fn main() {

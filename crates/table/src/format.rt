@@ -4,6 +4,7 @@ use crate::rows::entries_fit;
 use base::word;
 use trace::Mode;
 ghost use mathlib.Core.Path.{_≡_};
+ghost use Rattle.base.specs.Build.{Decides};
 ghost use Rattle.table.specs.Table.{frontTable};
 ghost use Rattle.table.specs.Answer.{modeNumber, HeaderRead, Checked};
 
@@ -14,6 +15,16 @@ pub fn mode_number(mode: Mode) -> u8
     match mode {
         Mode::Enforced => 1,
         Mode::Watched => 2,
+    }
+}
+
+// Whether a type is that of watched tables.
+pub fn is_watched(mode: Mode) -> bool
+    ensures { λ r. ⌜ Decides (modeNumber mode ≡ 2) r ⌝ }
+{
+    match mode {
+        Mode::Watched => true,
+        Mode::Enforced => false,
     }
 }
 

@@ -7,6 +7,7 @@ mod rows;
 
 pub use format::check_front;
 pub use format::header_of;
+pub use format::is_watched;
 pub use format::mode_number;
 pub use loader::load;
 pub use rows::canonical;

@@ -13,7 +13,7 @@ pub enum Answer {
         actions: u16,
         rows: u16,
     },
-    /// Denied by the rule on this place.
+    /// Denied by the rule on this place; of an explained list, by this node.
     Denied {
         place: u16,
     },
@@ -45,7 +45,7 @@ impl From<u64> for Answer {
 }
 
 impl Answer {
-    /// Value, actions and rows of a call that is done. Only an action can be denied.
+    /// Value, actions and rows of a call that is done. Only an action, asked for or of an explained list, can be denied.
     pub(crate) fn done(self) -> Result<(u16, u16, u16), Refusal> {
         match self {
             Answer::Done { value, actions, rows } => Ok((value, actions, rows)),

@@ -1,4 +1,5 @@
-//! Safe wrappers of the calls of include/lemondarts.h: read a text, compile, join, load, and a board that owns its bytes.
+//! Safe wrappers of the calls of include/lemondarts.h: read a text, compile, join, explain, load, and a board that owns
+//! its bytes.
 
 mod answer;
 mod calls;
@@ -18,6 +19,7 @@ const LONGEST_SHEET: usize = 362;
 const TABLE_HEADER: usize = 8;
 const WORK: usize = 65_536;
 const VALUES: usize = 1024;
+const LIST_PLACE: usize = 1;
 const TRIP: u8 = 255;
 /// Refusals of a sheet that name a node.
 const AT_A_NODE: RangeInclusive<u16> = 4..=9;
@@ -87,6 +89,27 @@ pub fn join(tables: &[&Table]) -> Result<Table, Refusal> {
     let answer = calls::join(tables.len(), &bytes, &mut out, &mut work, &mut values);
     // Refusals 8 and 9 are of the whole: they name no node here.
     Table::told(answer, out).map_err(|refusal| Refusal { node: None, ..refusal })
+}
+
+/// The first denied action of a list.
+#[derive(Clone, Copy, Debug, PartialEq, Eq)]
+pub struct Denial {
+    /// Its place in the list, from 0.
+    pub place: u64,
+    /// The part of the rule that denies it: of the policy's own node and those reached from it through And alone, the
+    /// lowest-numbered one that is violated.
+    pub node: u16,
+}
+
+/// Explains a list of actions by an enforced sheet: the first that is denied, or none where all are permitted. To have a
+/// denial of a board explained, list the actions that were permitted since the rule was put on, and the denied one.
+pub fn explain(sheet: &[u8], actions: &[u8]) -> Result<Option<Denial>, Refusal> {
+    let (mut place, mut work, mut values) = ([0; LIST_PLACE], vec![0; WORK], vec![0; VALUES]);
+    match calls::explain(sheet, actions, &mut place, &mut work, &mut values) {
+        Answer::Done { .. } => Ok(None),
+        Answer::Denied { place: node } => Ok(Some(Denial { place: place[0], node })),
+        Answer::Refused(refusal) => Err(refusal),
+    }
 }
 
 /// Checks the bytes of a table.

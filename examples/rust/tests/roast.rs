@@ -1,6 +1,6 @@
 //! The roast prints what examples/roast.c prints; refusals, sheets and tables come through the wrappers whole.
 
-use lemondarts::{compile, join, load, read_text, Answer, Board, Refusal, Table, Type, Verdict};
+use lemondarts::{compile, explain, join, load, read_text, Answer, Board, Denial, Refusal, Table, Type, Verdict};
 use std::process::Command;
 
 #[test]
@@ -78,6 +78,40 @@ fn tables_that_are_not_joined() {
     assert_eq!(join(&[&at_most(33, 0), &at_most(32, 1)]), refused(8));
     assert_eq!(join(&[&at_most(32, 0), &at_most(32, 1)]), refused(9));
     assert_eq!(join(&[&at_most(8, 0), &at_most(8, 1)]).map(|table| table.rows), Ok(64));
+}
+
+#[test]
+fn the_part_of_a_rule_that_denied() {
+    let rule = b"enforce and before eventually now p2 always holds not p0 and ignoring not p0 not count 3 not count 6";
+    let sheet = read_text(rule, &[1, 2, 4, 8]).unwrap();
+    let denied = |place, node| Ok(Some(Denial { place, node }));
+    assert_eq!(explain(&sheet, &[]), Ok(None));
+    assert_eq!(explain(&sheet, &[3, 2, 0, 1, 0]), Ok(None));
+    assert_eq!(explain(&sheet, &[3, 0]), denied(1, 7));
+    assert_eq!(explain(&sheet, &[2, 0, 1, 0, 0, 3]), denied(4, 12));
+    assert_eq!(explain(&sheet, &[3; 9]), denied(5, 14));
+
+    // The board denies what is explained.
+    let mut board = Board::new();
+    board.put_on(0, &compile(&sheet).unwrap()).unwrap();
+    let permitted = [2, 0, 1, 0].map(|action| matches!(board.action(action), Ok(Verdict::Permitted(_))));
+    assert_eq!((permitted, board.action(0)), ([true; 4], Ok(Verdict::Denied(0))));
+
+    let mut list = vec![1; 70_000];
+    let no_charge = include_bytes!("../../never_charge.sheet");
+    assert_eq!(explain(no_charge, &list), Ok(None));
+    list.push(0);
+    assert_eq!(explain(no_charge, &list), denied(70_000, 3));
+}
+
+#[test]
+fn lists_that_are_not_explained() {
+    let refused = |number, node| Err(Refusal { number, node, word: None });
+    let no_charge = include_bytes!("../../never_charge.sheet");
+    assert_eq!(explain(no_charge, &[1, 0, 4]), refused(12, None));
+    assert_eq!(explain(include_bytes!("../../eventually_drop.sheet"), &[4]), refused(34, None));
+    assert_eq!(explain(include_bytes!("../../eventually_holds_drop.sheet"), &[4]), refused(6, Some(2)));
+    assert_eq!(explain(&no_charge[1..], &[0]), refused(1, None));
 }
 
 #[test]

@@ -337,7 +337,7 @@ fn order() -> Vec<JoinCase> {
 /// Check 14, before all others.
 fn short_areas() -> Vec<JoinCase> {
     let mut all = Vec::new();
-    for (area, lent) in [("table", Lent::ShortTable), ("work", Lent::ShortWork), ("values", Lent::ShortValues)] {
+    for (area, lent) in [("table", Lent::ShortOutput), ("work", Lent::ShortWork), ("values", Lent::ShortValues)] {
         let short =
             |name, count, tables| JoinCase { lent, ..refused(&format!("short {area}: {name}"), count, tables, 14) };
         all.push(short("two tables", 2, bytes(&[TRAY_FIRST, DROP_BETWEEN])));

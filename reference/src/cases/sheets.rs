@@ -195,10 +195,10 @@ fn long() -> Vec<Case> {
 fn lent() -> Vec<Case> {
     let with = |name: &str, lent, sheet| Case { name: name.into(), lent, sheet, stated: Refused(14, 0) };
     vec![
-        with("a table area of 1,031 bytes", Lent::ShortTable, small()),
+        with("a table area of 1,031 bytes", Lent::ShortOutput, small()),
         with("a work area of 65,535 bytes", Lent::ShortWork, small()),
         with("a list of 1,023 numbers", Lent::ShortValues, small()),
-        with("a sheet of 9 bytes, and a table area of 1,031", Lent::ShortTable, small()[..9].to_vec()),
+        with("a sheet of 9 bytes, and a table area of 1,031", Lent::ShortOutput, small()[..9].to_vec()),
         with("no sheet, and a work area of 65,535", Lent::ShortWork, vec![]),
     ]
 }

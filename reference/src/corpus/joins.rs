@@ -21,7 +21,7 @@ pub struct Record {
 
 fn record(name: String, lent: Lent, count: usize, tables: Vec<u8>) -> Record {
     let short = |area, length: usize| if lent == area { length - 1 } else { length };
-    let mut out = vec![0; short(Lent::ShortTable, LARGEST)];
+    let mut out = vec![0; short(Lent::ShortOutput, LARGEST)];
     let mut work = vec![0; short(Lent::ShortWork, WORK)];
     let mut values = vec![0; short(Lent::ShortValues, VALUES)];
     let answer = calls::bytes(calls::join(count, &tables, &mut out, &mut work, &mut values));

@@ -139,6 +139,11 @@ pub fn rule(random: &mut Random, nodes: usize) -> (&'static str, Tree) {
     (first, grown(random, wanted, nodes))
 }
 
+/// An enforced policy of so many nodes, two or more.
+pub fn enforced(random: &mut Random, nodes: usize) -> Tree {
+    grown(random, E, nodes)
+}
+
 /// All words of a drawn rule.
 fn rule_words(random: &mut Random, nodes: usize) -> Vec<String> {
     let (first, policy) = rule(random, nodes);

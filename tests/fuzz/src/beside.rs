@@ -30,7 +30,9 @@ impl Call<'_> {
 pub struct Beside {
     input: Lent<u8>,
     actions: Lent<u16>,
+    list: Lent<u8>,
     out: Lent<u8>,
+    place: Lent<u64>,
     work: Lent<u8>,
     values: Lent<u64>,
     record: Lent<u8>,
@@ -47,7 +49,9 @@ impl Beside {
         Beside {
             input: Lent::new(),
             actions: Lent::new(),
+            list: Lent::new(),
             out: Lent::new(),
+            place: Lent::new(),
             work: Lent::new(),
             values: Lent::new(),
             record: Lent::new(),
@@ -92,15 +96,9 @@ impl Beside {
     ) -> (Outcome, Vec<u8>) {
         let mut out = vec![0; lengths[0]];
         random.fill(&mut out);
-        self.expected_work.resize(lengths[1], 0);
-        random.fill(&mut self.expected_work);
-        self.expected_values.resize(lengths[2], 0);
-        self.expected_values.iter_mut().for_each(|value| *value = random.draw());
-
         self.input.hold(random, input);
         self.out.hold(random, &out);
-        self.work.hold(random, &self.expected_work);
-        self.values.hold(random, &self.expected_values);
+        self.lend_work(random, lengths[1], lengths[2]);
         let (lent, lent_out) = (self.input.contents(), self.out.contents());
         let (lent_work, lent_values) = (self.work.contents(), self.values.contents());
         let answer = match count {
@@ -117,20 +115,65 @@ impl Beside {
         let mut report = Report::new(call, answer, expected);
         report.same("input", &mut self.input, input);
         report.same("out", &mut self.out, &out);
-        report.same("work", &mut self.work, &self.expected_work);
-        report.same("values", &mut self.values, &self.expected_values);
-        let number = answer as u16;
-        if number != 0 && *self.out.contents() != before[..] {
+        self.compare_work(&mut report);
+        if answer as u16 != 0 && *self.out.contents() != before[..] {
             report.differs("refused, but out is changed");
         }
-        let cleared = number == 14
+        let numbers = format!("lengths of out, work, values: {lengths:?}; count: {count:?}");
+        (report.close(&[("input", input)], &numbers), out)
+    }
+
+    /// Explains with areas of these lengths, filled with junk; gives the place as it stands then.
+    pub fn explain(
+        &mut self,
+        random: &mut Random,
+        sheet: &[u8],
+        list: &[u8],
+        lengths: [usize; 3],
+    ) -> (Outcome, Option<u64>) {
+        let mut place: Vec<u64> = (0..lengths[0]).map(|_| random.draw()).collect();
+        self.input.hold(random, sheet);
+        self.list.hold(random, list);
+        self.place.hold(random, &place);
+        self.lend_work(random, lengths[1], lengths[2]);
+        let (lent, lent_list, lent_place) = (self.input.contents(), self.list.contents(), self.place.contents());
+        let answer = library::explain(lent, lent_list, lent_place, self.work.contents(), self.values.contents());
+
+        let before = place.clone();
+        let expected = calls::explain(sheet, list, &mut place, &mut self.expected_work, &mut self.expected_values);
+        let mut report = Report::new("explain", answer, expected);
+        report.same("sheet", &mut self.input, sheet);
+        report.same("list", &mut self.list, list);
+        report.same("place", &mut self.place, &place);
+        self.compare_work(&mut report);
+        let written = (answer as u16 == calls::DENIED.into()) as usize;
+        if self.place.contents()[written..] != before[written..] {
+            report.differs("place is changed behind its first number, or though nothing is denied");
+        }
+        let numbers = format!("lengths of place, work, values: {lengths:?}");
+        (report.close(&[("sheet", sheet), ("list", list)], &numbers), place.first().copied())
+    }
+
+    /// Lends work areas of these lengths, filled with junk.
+    fn lend_work(&mut self, random: &mut Random, work: usize, values: usize) {
+        self.expected_work.resize(work, 0);
+        random.fill(&mut self.expected_work);
+        self.expected_values.resize(values, 0);
+        self.expected_values.iter_mut().for_each(|value| *value = random.draw());
+        self.work.hold(random, &self.expected_work);
+        self.values.hold(random, &self.expected_values);
+    }
+
+    /// Holds the work areas to what the reference has, and to zeros but where the answer is 14.
+    fn compare_work(&mut self, report: &mut Report) {
+        report.same("work", &mut self.work, &self.expected_work);
+        report.same("values", &mut self.values, &self.expected_values);
+        let cleared = report.answer as u16 == 14
             || self.work.contents()[..WORK].iter().all(|&byte| byte == 0)
                 && self.values.contents()[..VALUES].iter().all(|&value| value == 0);
         if !cleared {
             report.differs("a work area is not zero");
         }
-        let numbers = format!("lengths of out, work, values: {lengths:?}; count: {count:?}");
-        (report.close(&[("input", input)], &numbers), out)
     }
 
     /// Reads a text with an output of this length, filled with junk; gives the output as it stands then.

@@ -23,6 +23,18 @@ extern "C" {
         values: *mut u64,
         values_length: usize,
     ) -> u64;
+    fn lemondarts_explain(
+        sheet: *const u8,
+        sheet_length: usize,
+        actions: *const u8,
+        actions_length: usize,
+        place: *mut u64,
+        place_length: usize,
+        work: *mut u8,
+        work_length: usize,
+        values: *mut u64,
+        values_length: usize,
+    ) -> u64;
     fn lemondarts_read_text(
         text: *const u8,
         text_length: usize,
@@ -72,6 +84,23 @@ pub fn join(count: usize, tables: &[u8], out: &mut [u8], work: &mut [u8], values
             tables.len(),
             out.as_mut_ptr(),
             out.len(),
+            work.as_mut_ptr(),
+            work.len(),
+            values.as_mut_ptr(),
+            values.len(),
+        )
+    }
+}
+
+pub fn explain(sheet: &[u8], actions: &[u8], place: &mut [u64], work: &mut [u8], values: &mut [u64]) -> u64 {
+    unsafe {
+        lemondarts_explain(
+            sheet.as_ptr(),
+            sheet.len(),
+            actions.as_ptr(),
+            actions.len(),
+            place.as_mut_ptr(),
+            place.len(),
             work.as_mut_ptr(),
             work.len(),
             values.as_mut_ptr(),

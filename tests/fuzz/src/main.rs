@@ -9,20 +9,23 @@ mod library;
 use beside::{Beside, Call, Outcome};
 use boards::{about, any_board, number};
 use reference::board::{AREA, PLACES, RECORD};
-use reference::calls::{fields, VALUES, WORK};
+use reference::calls::{fields, DENIED, VALUES, WORK};
 use reference::generate::Random;
 use reference::inputs::joins::any_join;
+use reference::inputs::lists::{any_list, list_for, long_list};
 use reference::inputs::sheets::any_sheet;
 use reference::inputs::tables::Pool;
 use reference::inputs::texts::{any_actions, any_text};
 use reference::table::LARGEST;
 use reference::text::OUTPUT;
-use std::collections::BTreeMap;
+use std::collections::{BTreeMap, BTreeSet};
 
 /// So many disagreements are printed; then the run ends.
 const ENOUGH: usize = 100;
 /// Calls of one history.
 const HISTORY: usize = 40;
+/// Of so many lists one is long.
+const LONG: usize = 500;
 
 struct Fuzz {
     random: Random,
@@ -31,6 +34,9 @@ struct Fuzz {
     sorts: BTreeMap<&'static str, usize>,
     /// By call and number of the answer.
     answers: BTreeMap<(&'static str, u16), usize>,
+    /// The nodes that explaining named, and the places.
+    named: BTreeSet<u16>,
+    places: BTreeSet<u64>,
     calls: usize,
     disagreements: usize,
 }
@@ -69,6 +75,28 @@ impl Fuzz {
         self.count(if short { "join, an area too short" } else { join.sort }, "join", outcome);
     }
 
+    /// Explains a list of any sort, seldom a long one.
+    fn list(&mut self) {
+        let random = &mut self.random;
+        let drawn = if random.below(LONG) == 0 { long_list(random) } else { any_list(random) };
+        self.explain(drawn.sort, &drawn.sheet, &drawn.list);
+    }
+
+    fn explain(&mut self, sort: &'static str, sheet: &[u8], list: &[u8]) {
+        let (mut lengths, _) = self.lengths();
+        lengths[0] = about(&mut self.random, 1);
+        let short = lengths[0] < 1 || lengths[1] < WORK || lengths[2] < VALUES;
+        let (outcome, place) = self.beside.explain(&mut self.random, sheet, list, lengths);
+        if let Ok(answer) = outcome {
+            let [number, node, ..] = fields(answer);
+            if number == DENIED.into() {
+                self.named.insert(node);
+                self.places.extend(place);
+            }
+        }
+        self.count(if short { "list, an area too short" } else { sort }, "explain", outcome);
+    }
+
     /// Lengths of the areas that making a table is lent, and whether one is too short.
     fn lengths(&mut self) -> ([usize; 3], bool) {
         let lengths = [LARGEST, WORK, VALUES].map(|length| about(&mut self.random, length));
@@ -85,7 +113,7 @@ impl Fuzz {
         }
     }
 
-    /// Reads a text, and compiles the sheet that it gives.
+    /// Reads a text, and compiles the sheet that it gives, or explains a list by it.
     fn text(&mut self) {
         let (sort, text) = any_text(&mut self.random);
         let actions = any_actions(&mut self.random);
@@ -99,7 +127,13 @@ impl Fuzz {
         let read = outcome.as_ref().map_or([14, 0, 0, 0], |answer| fields(*answer));
         self.count(sort, "read_text", outcome);
         if read[0] == 0 {
-            self.compile("sheet, of a text", &out[..read[1] as usize]);
+            let sheet = &out[..read[1] as usize];
+            if self.random.chance(70) {
+                self.compile("sheet, of a text", sheet);
+            } else {
+                let list = list_for(&mut self.random, sheet);
+                self.explain("list, the sheet of a text", sheet, &list);
+            }
         }
     }
 
@@ -159,27 +193,32 @@ fn main() {
         pool: Pool::default(),
         sorts: BTreeMap::new(),
         answers: BTreeMap::new(),
+        named: BTreeSet::new(),
+        places: BTreeSet::new(),
         calls: 0,
         disagreements: 0,
     };
     while fuzz.calls < calls && fuzz.disagreements < ENOUGH {
-        match fuzz.random.below(160) {
+        match fuzz.random.below(185) {
             0..=39 => fuzz.sheet(),
             40..=69 => fuzz.table(),
             70..=98 => fuzz.board(),
             99..=138 => fuzz.text(),
             139..=158 => fuzz.join(),
+            159..=183 => fuzz.list(),
             _ => fuzz.history(),
         }
     }
     println!("inputs by sort");
     fuzz.sorts.iter().for_each(|(sort, count)| println!("{count:>9}  {sort}"));
     println!("answers by call and number (0 done, 255 denied)");
-    for name in ["read_text", "compile", "join", "load", "new_board", "put_on", "take_off", "action"] {
+    for name in ["read_text", "compile", "join", "explain", "load", "new_board", "put_on", "take_off", "action"] {
         let of_call = fuzz.answers.iter().filter(|((call, _), _)| *call == name);
         let list: Vec<String> = of_call.map(|((_, number), count)| format!("{number}: {count}")).collect();
         println!("{name:>9}  {}", list.join(", "));
     }
+    let farthest = fuzz.places.last().copied().unwrap_or(0);
+    println!("{} nodes named, {} places up to {farthest}", fuzz.named.len(), fuzz.places.len());
     println!("{} calls, seed {seed}", fuzz.calls);
     println!("{} disagreements", fuzz.disagreements);
     std::process::exit((fuzz.disagreements > 0) as i32);

@@ -60,7 +60,7 @@ module _ (c : tie.After-rows) where
   written = built made (Rows rows) (c .rows .given .1)
 
   limit : start made .args .row-limit ≤ 64
-  limit = start made .pre .1 .row-high
+  limit = start made .pre .1 .to-work .row-high
 
   listed : actions made ≤ 16
   listed = start made .pre .0 .1 .high
@@ -69,7 +69,7 @@ module _ (c : tie.After-rows) where
   size = size-small rows written limit listed
 
   room : 65536 ≤ length (work made)
-  room = let k = made .build-large .kept in omega (arith, start made .pre .1 .areas .bytes)
+  room = let k = made .build-large .kept in omega (arith, start made .pre .1 .to-work .bytes)
 
 mul-to : tie.Need-mul-to
 mul-to c = omega (arith, size (c .before))
@@ -84,7 +84,7 @@ write-table-requires : tie.Need-write-table-requires
 write-table-requires c κs =
     let r = c .before .before .before .before in (
       omega (arith, listed r),
-      (omega (arith, few-rows (rows r) (written r) (limit r) (listed r)), omega (arith, part-length (rows r) (written r) (limit r) (listed r) (room r), size r, start (made r) .pre .1 .areas .output)),
+      (omega (arith, few-rows (rows r) (written r) (limit r) (listed r)), omega (arith, part-length (rows r) (written r) (limit r) (listed r) (room r), size r, start (made r) .pre .1 .output)),
     )
 
 returns-3 : tie.Need-returns-3

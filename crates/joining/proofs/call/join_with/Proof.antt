@@ -75,7 +75,7 @@ lay-out-requires : tie.Need-lay-out-requires
 lay-out-requires c κs =
     let t = c .before .before in
     let k = counted (made t) in
-    (all t .fit, omega (arith, k .low), k .high, start (made t) .pre .areas .bytes)
+    (all t .fit, omega (arith, k .low), k .high, start (made t) .pre .to-work .bytes)
 
 -- the rows are laid out
 module _ (c : tie.After-lay-out) where
@@ -114,7 +114,7 @@ module _ (c : tie.After-actions) where
   few = counted (checks out)
 
   room : 65536 ≤ length (work out)
-  room = let k = out .lay-out .kept in omega (arith, start (checks out) .pre .areas .bytes)
+  room = let k = out .lay-out .kept in omega (arith, start (checks out) .pre .to-work .bytes)
 
 build-joined-requires : tie.Need-build-joined-requires
 build-joined-requires c κs =
@@ -126,11 +126,16 @@ build-joined-requires c κs =
         acting (count a) (input (checks (out a))) (work (out a)) (actions a) fit (agreed a .0) (agreed a .1) (omega (arith, few a .low)),
       ),
       record {
-        value-low = lent .value-low;
-        value-high = lent .value-high;
-        row-low = lent .row-low;
-        row-high = lent .row-high;
-        areas = record { output = lent .areas .output; bytes = room a; numbers = lent .areas .numbers };
+        to-work =
+            record {
+              value-low = lent .to-work .value-low;
+              value-high = lent .to-work .value-high;
+              row-low = lent .to-work .row-low;
+              row-high = lent .to-work .row-high;
+              bytes = room a;
+              numbers = lent .to-work .numbers;
+            };
+        output = lent .output;
       },
     )
 

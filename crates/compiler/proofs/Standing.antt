@@ -1,0 +1,119 @@
+-- What building the rules of a sound sheet answers is what the sheet gives: 8 or 9 at the first node over a limit, or the rows of every node in its
+-- slot.
+-- Assumes nothing.
+use mathlib.Core.Path.{_≡_, sym, _∙_, ap, subst}
+use mathlib.Core.List.{List, []}
+use Prim.Native.Nat.{ℕ, _*_, _-_, _≤_, _<_}
+use native.Mathlib.Omega.{arith}
+use lib.ListN.{take}
+use Rattle.trace.specs.declared.Mode.{Mode}
+use Rattle.automaton.specs.Minimal.{RowsOf}
+use Rattle.automaton.proofs.MinimalRows.{rows-unique}
+use Rattle.table.specs.Answer.{refused}
+use Rattle.making.specs.Making.{Workable}
+use Rattle.syntax.specs.Typed.{sound, SoundSheet}
+use Rattle.syntax.specs.declared.Sheet.{Sheet}
+use Rattle.syntax.specs.declared.TypedNode.{TypedNode}
+use Rattle.sheet.specs.Judge.{judge}
+use Rattle.rules.specs.Rules.{slotAt}
+use Rattle.machine_rows.proofs.BuiltSlots.{built-readable}
+use Rattle.rule_rows.specs.Lists.{AllBuildable, BuiltTo, LastRows, ValuesOver, RowsOver}
+use Rattle.node_rules.specs.Nodes.{tripsNode, Tables}
+use Rattle.node_rules.specs.Lowering.{rulesOf}
+use Rattle.node_rules.proofs.NodeRules.{policy-right}
+use Rattle.node_rules.proofs.Facts.{rule-facts}
+use Rattle.compiler.specs.Limits.{Built}
+use Rattle.compiler.specs.Compiles.{PolicyNode, Builds, passes}
+use Rattle.compiler.specs.Building.{Stands, NodesStand, NodesTo, SheetTo}
+use Rattle.compiler.specs.declared.NodesBuilt.{NodesBuilt}
+use Rattle.compiler.specs.declared.NodesBuilt.the-variants.{NotSound, ValuesAt, RowsAt, Rows}
+use Rattle.compiler.proofs.BuiltNodes as nodes
+use Rattle.compiler.proofs.SlotTables.{slot-part}
+
+module _ {mode : Mode} {sheet : Sheet} {types : List TypedNode} (right : SoundSheet mode sheet types) (valueLimit rowLimit : ℕ) where
+  -- the rules of the sheet can be built
+  pub buildable : (work numbers : List ℕ) → Workable valueLimit rowLimit work numbers
+      → AllBuildable (rulesOf sheet types) (sheet .count) (sheet .actions) valueLimit rowLimit work numbers
+  buildable work numbers lent =
+      record {
+        few = right .formed .few-nodes;
+        parts = λ n h rule e. rule-facts sheet types right n h rule e .parts;
+        actions-low = right .formed .some-action;
+        actions-high = right .formed .few-actions;
+        value-low = lent .value-low;
+        value-high = lent .value-high;
+        row-low = lent .row-low;
+        row-high = lent .row-high;
+        room = lent .bytes;
+        space = lent .numbers;
+      }
+
+  module _ (small : rowLimit ≤ 64) (work : List ℕ) where
+    pub values-over : (n : ℕ) → ValuesOver (rulesOf sheet types) (sheet .count) (sheet .actions) valueLimit rowLimit n work
+        → Builds mode sheet types valueLimit rowLimit (refused 8 n) []
+    values-over n o = let h = o .inside in nodes.stops-values right valueLimit rowLimit small n (omega arith) work (o .earlier) (o .inside) (o .rule) (o .is) (o .over)
+
+    pub rows-over : (n : ℕ) → RowsOver (rulesOf sheet types) (sheet .count) (sheet .actions) valueLimit rowLimit n work
+        → Builds mode sheet types valueLimit rowLimit (refused 9 n) []
+    rows-over n o =
+        let h = o .inside in
+        nodes.stops-rows right valueLimit rowLimit small n (omega arith) work (o .earlier) (o .inside) (o .rule) (o .is) (o .few-values) (o .over)
+
+    -- every rule is built
+    module _ (built : BuiltTo (rulesOf sheet types) (sheet .actions) valueLimit rowLimit (sheet .count) work) (count : ℕ)
+        (newest : LastRows (rulesOf sheet types) (sheet .actions) valueLimit rowLimit (sheet .count) count work) where
+      abbrev A : ℕ
+      A = sheet .actions
+
+      abbrev last : ℕ
+      last = sheet .count - 1
+
+      below : last < sheet .count
+      below = omega (arith, right .formed .some-node)
+
+      policy : PolicyNode types last
+      policy = record { mode = mode; bound = right .bound; is = right .last }
+
+      abbrev tables : Tables
+      tables = nodes.tables right valueLimit rowLimit small (sheet .count) (omega arith) work built
+
+      own : Built sheet tables valueLimit rowLimit last
+      own = nodes.built-before right valueLimit rowLimit small (sheet .count) (omega arith) work built last below policy
+
+      rows-are : RowsOf A (tripsNode sheet last) count (take (count * A) (slotAt work last))
+      rows-are =
+          let l = policy-right sheet (λ k. Unit {0}) types right last below (λ k p. tt) (right .last) in
+          let b = newest .newest last (omega (arith, right .formed .some-node)) (l .code) (l .is) in
+          subst (λ (k : ℕ). RowsOf A (tripsNode sheet last) k (take (k * A) (slotAt work last))) (b .1)
+          (nodes.last-rows right valueLimit rowLimit small (sheet .count) (omega arith) work built last below policy (l .code) (l .is) (b .0))
+
+      -- they are the rows that were listed for it
+      same : (count ≡ own .rows) × (take (count * A) (slotAt work last) ≡ tables last)
+      same = rows-unique (right .formed .some-action) rows-are (own .fits)
+
+      stands : (i : ℕ) → i < sheet .count → PolicyNode types i → Stands sheet tables work i
+      stands i h p =
+          let l = policy-right sheet (λ k. Unit {0}) types right i h (λ k q. tt) (p .is) in
+          record {
+            readable = built-readable work i (built .each i h (l .code) (l .is)) small (omega (arith, right .formed .few-nodes));
+            machine = slot-part (rulesOf sheet types) A valueLimit rowLimit (sheet .count) work built i h (l .code) (l .is);
+          }
+
+      pub nodes-stand : NodesStand sheet types valueLimit rowLimit count work
+      nodes-stand =
+          record {
+            tables = tables;
+            built = nodes.built-before right valueLimit rowLimit small (sheet .count) (omega arith) work built;
+            stand = stands;
+            last = own;
+            counted = same .0;
+            entries = same .1;
+          }
+
+-- what the nodes of a judged sheet give is what its bytes give
+pub nodes-to-sheet : (bytes : List ℕ) {mode : Mode} {sheet : Sheet} {types : List TypedNode} (valueLimit rowLimit : ℕ) (work : List ℕ)
+    → judge bytes ≡ sound mode sheet types → (b : NodesBuilt) → NodesTo mode sheet types valueLimit rowLimit b work → SheetTo bytes valueLimit rowLimit b sheet work
+nodes-to-sheet bytes valueLimit rowLimit work judged (NotSound f) e = absurd e
+nodes-to-sheet bytes valueLimit rowLimit work judged (ValuesAt n) e = passes _ _ _ judged _ _ e
+nodes-to-sheet bytes valueLimit rowLimit work judged (RowsAt n) e = passes _ _ _ judged _ _ e
+nodes-to-sheet bytes {sheet = sheet} {types} valueLimit rowLimit work judged (Rows m rows) e = record { types = types; judged = judged ∙ ap (λ (x : Mode). sound x sheet types) (sym (e .0)); nodes = e .1 }

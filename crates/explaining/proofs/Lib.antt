@@ -1,0 +1,4 @@
+pub mod Walks
+pub mod ReachedNodes
+pub mod Findings
+pub mod Standing

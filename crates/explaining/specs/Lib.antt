@@ -1,0 +1,4 @@
+pub mod Denials
+pub mod Explains
+pub mod Calling
+pub mod Reading

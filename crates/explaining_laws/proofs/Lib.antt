@@ -1,0 +1,12 @@
+pub mod Places
+pub mod Outcome
+pub mod Answers
+pub mod Calls
+pub mod Named
+pub mod Spots
+pub mod Fronts
+pub mod Replies
+pub mod Boards
+pub mod ExplainedBoard
+pub mod Meanings
+pub mod Unread

@@ -1,0 +1,4 @@
+pub mod Answers
+pub mod Named
+pub mod Boards
+pub mod Meanings

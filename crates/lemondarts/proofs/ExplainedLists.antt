@@ -1,0 +1,87 @@
+-- From a list to what C reads: the number that explaining returns says the whole answer but for the place, which stands in the lent list; and a board
+-- with the sheet's table alone permits the actions before that place, and denies the one there.
+-- Assumes nothing.
+use mathlib.Core.Path.{_≡_, refl, sym, ap, subst}
+use mathlib.Core.List.{List, [], _∷_, _++_, reverse}
+use Prim.Native.Nat.{ℕ}
+use native.Mathlib.Omega.{arith}
+use lib.ListN.{getD}
+use Rattle.table.specs.Answer.{accepted}
+use Rattle.making.specs.Making.{short, makes}
+use Rattle.compiler.specs.Compiles.{Compiles}
+use Rattle.histories.specs.History.{Event}
+use Rattle.joining_laws.specs.Boards.{PutsOnly, ActsOnly}
+use Rattle.explaining.specs.Explains.{Explanation, no-denial, denied, refused, Explains}
+use Rattle.explaining.specs.Calling.{ExplainsInto}
+use Rattle.explaining_laws.specs.Boards.{AllPermitted, DeniedAfter}
+use Rattle.explaining_laws.proofs.Spots.{RefusalFits, explain-refusal-fits, explain-denial-fits}
+use Rattle.explaining_laws.proofs.Calls.{place-in-output}
+use Rattle.explaining_laws.proofs.ExplainedBoard.{new-board-permits, new-board-denies}
+use Rattle.answers.specs.Explanations.{packedExplanation}
+use Rattle.lemondarts.specs.Session.{numberIn, valueIn, Session}
+use Rattle.lemondarts.specs.Explaining.{ExplainReturns}
+use Rattle.lemondarts.proofs.Answers.{number-of, value-of}
+use Rattle.lemondarts.proofs.Sessions.{session-history}
+
+-- What a returned number says: 0, 255 with the node, or a refusal's number, which is neither, with its spot.
+abbrev pub SaysOf : Explanation → ℕ → Type 0
+SaysOf no-denial returned = numberIn returned ≡ 0
+SaysOf (denied place node) returned = (numberIn returned ≡ 255) × (valueIn returned ≡ node)
+SaysOf (refused number spot) returned = (numberIn returned ≡ number) × (valueIn returned ≡ spot) × RefusalFits number spot
+
+explains-says : (bytes : List ℕ) {list : List ℕ} (answer : Explanation) {written : List ℕ} → Explains bytes list 1024 64 answer written → SaysOf answer (packedExplanation answer)
+explains-says bytes no-denial e = number-of 0 0 (omega arith)
+explains-says bytes (denied place node) e = let f = explain-denial-fits bytes e in (number-of 255 node (omega arith), value-of 255 node (omega (arith, f .1)))
+explains-says bytes (refused number spot) e =
+    let f = explain-refusal-fits bytes e in (number-of number spot (omega (arith, f .high)), value-of number spot (omega (arith, f .spot-low)), f)
+
+-- Reading the fields of the returned number back gives the answer.
+pub explain-says : {bytes list place work values place' work' values' : List ℕ} {answer : Explanation} → ExplainsInto bytes list place work values answer place' work' values'
+    → SaysOf answer (packedExplanation answer)
+explain-says (short n) = (number-of 14 0 (omega arith), value-of 14 0 (omega arith), record { low = omega arith; high = omega arith; spot-low = omega arith })
+explain-says {bytes} (makes a answer written e) = explains-says bytes answer e
+
+-- an answer that is not 14 is one of explaining
+gives : {bytes list place work values place' work' values' : List ℕ} {answer : Explanation} → ExplainsInto bytes list place work values answer place' work' values'
+    → (answer ≡ refused 14 0 → ⊥) → (t : List ℕ) × Explains bytes list 1024 64 answer t
+gives (short h) n = absurd (n refl)
+gives (makes a answer t e) n = (t, e)
+
+module _ {bytes list place work values place' work' values' : List ℕ} (returned : ℕ) where
+  -- the answer by its number
+  none-by : (answer : Explanation) → ExplainsInto bytes list place work values answer place' work' values' → SaysOf answer returned → numberIn returned ≡ 0
+      → (t : List ℕ) × Explains bytes list 1024 64 no-denial t
+  none-by no-denial e s zero = gives e (λ q. let z : _≡_ {A = ℕ} 0 1 = cc in omega arith)
+  none-by (denied p n) e s zero = absurd (omega (arith, s .0))
+  none-by (refused number spot) e s zero = absurd (omega (arith, s .0, s .2 .low))
+
+  denied-by : (answer : Explanation) → ExplainsInto bytes list place work values answer place' work' values' → SaysOf answer returned → numberIn returned ≡ 255
+      → (t : List ℕ) × Explains bytes list 1024 64 (denied (getD place' 0 0) (valueIn returned)) t
+  denied-by no-denial e s is = absurd (omega arith)
+  denied-by (denied p n) e s is =
+      let (t, g) = gives e (λ q. let z : _≡_ {A = ℕ} 0 1 = cc in omega arith) in
+      (t, rw (ap (λ (l : List ℕ). getD l 0 0) (place-in-output e), s .1) g)
+  denied-by (refused number spot) e s is = absurd (omega (arith, s .0, s .2 .high))
+
+module _ {bytes list place work values : List ℕ} {returned : ℕ} {place' work' values' : List ℕ}
+    (r : ExplainReturns bytes list place work values returned place' work' values') where
+  says : SaysOf (r .answer) returned
+  says = subst (SaysOf (r .answer)) (sym (r .number)) (explain-says (r .explains))
+
+  -- Where explaining returns 0, no action of the list is denied; where it returns 255, the place in the lent list is that of the first denied
+  -- one, and the value the node that is named for it.
+  pub explain-none : numberIn returned ≡ 0 → (t : List ℕ) × Explains bytes list 1024 64 no-denial t
+  explain-none = none-by returned (r .answer) (r .explains) says
+
+  pub explain-denied : numberIn returned ≡ 255 → (t : List ℕ) × Explains bytes list 1024 64 (denied (getD place' 0 0) (valueIn returned)) t
+  explain-denied = denied-by returned (r .answer) (r .explains) says
+
+  -- A new board on which C has put the sheet's table alone, given the list action by action, permits each of them where explaining returned 0; and
+  -- where it returned 255 those before the place, and denies the one there.
+  module _ {type actions rows : ℕ} {table : List ℕ} (c : Compiles bytes 1024 64 (accepted type actions rows) table) {puts later : List Event} (p : PutsOnly puts (table ∷ []))
+      (acts : ActsOnly later (reverse list)) {record' area : List ℕ} (s : Session (later ++ puts) record' area) where
+    pub session-permits : numberIn returned ≡ 0 → AllPermitted later
+    session-permits zero = new-board-permits (omega arith) c puts p acts (session-history s .history) (explain-none zero .1)
+
+    pub session-denies : numberIn returned ≡ 255 → DeniedAfter table later puts (getD place' 0 0)
+    session-denies is = new-board-denies (omega arith) c puts p acts (session-history s .history) (explain-denied is .1)
