@@ -129,6 +129,21 @@ static void files(void) {
     held = never(&s, charge);
     lemondarts_sheet_whenever(&s, first, lemondarts_sheet_before_plus(&s, released, held));
     same_as(&s, "drop_between_charges.sheet");
+
+    begin(&s);
+    charge = lemondarts_sheet_proposition(&s, CHARGE);
+    first = lemondarts_sheet_eventually(&s, lemondarts_sheet_now(&s, charge));
+    lemondarts_sheet_always(&s, first); /* left over: no node uses it */
+    released = once(&s, DROP);
+    held = never(&s, charge);
+    lemondarts_sheet_whenever(&s, first, lemondarts_sheet_before_plus(&s, released, held));
+    same_as(&s, "drop_between_charges_spare.sheet");
+
+    begin(&s);
+    held = lemondarts_sheet_holds(&s, lemondarts_sheet_negation(&s, lemondarts_sheet_proposition(&s, CHARGE)));
+    lemondarts_sheet_node(&s, 24, 0, 0, 0, 0); /* left over, of an unknown kind */
+    lemondarts_sheet_always(&s, held);
+    same_as(&s, "spare_unknown_kind.sheet");
 }
 
 /* Each kind that no file has, as bytes. */

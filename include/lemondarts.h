@@ -30,13 +30,13 @@
 
 /* The version of this header and its calls. A change raises
  * - MAJOR, where a caller may have to change: a call, a name, an answer, or the bytes of a sheet, a table or a record become others or go;
- * - MINOR, where something is added: a call, a name, a kind of node;
+ * - MINOR, where something is added: a call, a name, a kind of node, sheets that compile and did not;
  * - PATCH, where neither is so: stack, time, comments.
  */
 #define LEMONDARTS_VERSION_MAJOR 4
-#define LEMONDARTS_VERSION_MINOR 4
+#define LEMONDARTS_VERSION_MINOR 5
 #define LEMONDARTS_VERSION_PATCH 0
-#define LEMONDARTS_VERSION "4.4.0"
+#define LEMONDARTS_VERSION "4.5.0"
 
 /* Lengths. An area may be longer; what stands behind these lengths is not touched. */
 #define LEMONDARTS_RECORD 16     /* a board's record, in bytes */
@@ -66,7 +66,8 @@
 
 /* A sheet: a header (counts of actions and nodes, offsets of the action list and the node list, total length; 16 bits each, low byte first), an
  * action list (16 bits an action: bit p set where it satisfies proposition p), a node list (five bytes a node: kind, argument, parts a, b, c).
- * Parts are numbers of earlier nodes; the last node is the policy. include/lemondarts_sheet.h writes sheets.
+ * Parts are numbers of earlier nodes; the last node is the policy. A node is used where it is the policy, or a part of a node that is used; of any
+ * other the kind and the fields are checked, and nothing else. include/lemondarts_sheet.h writes sheets.
  */
 #define LEMONDARTS_SHEET_HEADER 10   /* in bytes */
 #define LEMONDARTS_SHEET_ACTION 2    /* an action of the action list, in bytes */
@@ -135,8 +136,8 @@
 #define LEMONDARTS_BAD_LENGTH 1u         /* sheet under 10 bytes, or its total is not its length: send the whole sheet */
 #define LEMONDARTS_BAD_COUNTS 2u         /* actions not 1 to 16, nodes not 1 to 64, or tables to join not 2 to 8: correct the count, or split the sheet */
 #define LEMONDARTS_BAD_AREAS 3u          /* action or node list misplaced: correct the offsets in the header */
-#define LEMONDARTS_UNKNOWN_KIND 4u       /* the node's kind is unknown: correct the node */
-#define LEMONDARTS_BAD_FIELD 5u          /* the node's part, argument or unused field is wrong: correct the node */
+#define LEMONDARTS_UNKNOWN_KIND 4u       /* the node's kind is unknown: correct the node, or take it out where it is not used */
+#define LEMONDARTS_BAD_FIELD 5u          /* the node's part, argument or unused field is wrong: correct the node, or take it out where it is not used */
 #define LEMONDARTS_BAD_TYPE 6u           /* a part is of the wrong type, or the last node is no policy: no table can hold a program to this rule */
 #define LEMONDARTS_BOUND_TOO_LARGE 7u    /* a finite bound above 65,534: shorten the rule */
 #define LEMONDARTS_TOO_MANY_VALUES 8u    /* over 1,024 remembered values: simplify the node, or join fewer tables */
@@ -202,8 +203,8 @@ uint64_t lemondarts_load(const uint8_t *table, size_t table_len);
 /* Compiles a rule sheet to its table.
  * Reads `sheet`, any bytes. `out` is 1,032 bytes or more, `work` 65,536 bytes or more, `values` 1,024 numbers or more, aligned to 8 bytes.
  * Done: the table is at the front of `out`, LEMONDARTS_TABLE_LENGTH bytes, and what stands behind it is unchanged; the value is the type, with
- * ACTIONS and ROWS. Refused: `out` is unchanged. The first refusal in the order 14, 1, 2, 3; node by node 4, 5, 6, 7; the last node's 6; node
- * by node 8, 9. For 4 to 9 the value is the node.
+ * ACTIONS and ROWS. Refused: `out` is unchanged. The first refusal in the order 14, 1, 2, 3; node by node 4, 5 of all nodes; node by node 6, 7 of
+ * those that are used; the last node's 6; node by node 8, 9 of those that are used. For 4 to 9 the value is the node.
  * `work` and `values` may hold anything. On return they are zero over the lengths above, and unchanged where the answer is 14.
  */
 uint64_t lemondarts_compile(const uint8_t *sheet, size_t sheet_len, uint8_t *out, size_t out_len,

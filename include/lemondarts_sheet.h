@@ -9,8 +9,8 @@
  *     lemondarts_sheet_always(&sheet, lemondarts_sheet_holds(&sheet, lemondarts_sheet_negation(&sheet, first)));
  *     size_t length = lemondarts_sheet_finish(&sheet, bytes, sizeof bytes);
  *
- * The node made last is the policy. Where two parts are made in one expression C leaves open which is made first: the rule is the same, but not
- * the bytes. Types are not checked here: the compiler does that, and answers the node.
+ * The node made last is the policy; a node that it does not use is no part of the rule. Where two parts are made in one expression C leaves open
+ * which is made first: the rule is the same, but not the bytes. Types are not checked here: the compiler does that, and answers the node.
  */
 #ifndef LEMONDARTS_SHEET_H
 #define LEMONDARTS_SHEET_H

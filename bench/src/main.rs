@@ -1,8 +1,8 @@
 //! Times of the library's calls, as ratios to the reference in the same run; of actions also to a
 //! plain scan of the bytes that the check of the board has to read, and to the same call written by
 //! hand in C, plain and with SSE2; of reading a text also to compiling its sheet; of minimisation and of
-//! joining to OpenFst; of explaining to compiling the sheet. Arguments: the programs built from minimise.cc and
-//! intersect.cc, if there are any.
+//! joining to OpenFst; of explaining to compiling the sheet; of a sheet with spare nodes to the same without.
+//! Arguments: the programs built from minimise.cc and intersect.cc, if there are any.
 
 mod by_hand;
 mod denials;
@@ -11,6 +11,7 @@ mod joins;
 #[path = "../../tests/fuzz/src/library.rs"]
 mod library;
 mod openfst;
+mod spare;
 mod texts;
 
 use reference::board::{AREA, PLACES, RECORD};
@@ -286,4 +287,5 @@ fn main() {
 
     joins::all(programs.next().as_deref());
     denials::all();
+    spare::all();
 }

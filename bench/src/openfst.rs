@@ -14,7 +14,7 @@ const ROUNDS: usize = 5;
 /// Repetitions in a round.
 const REPETITIONS: usize = 21;
 
-/// The machines of a sheet's nodes before minimisation, up to the first that is refused.
+/// The machines of the nodes that a sheet uses before minimisation, up to the first that is refused.
 fn machines(sheet: &Sheet) -> Vec<Machine> {
     let types = sheet.types().expect("a sheet that passes 1 to 7");
     let formulas = sheet.formula_sets();

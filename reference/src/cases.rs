@@ -7,6 +7,7 @@ pub mod histories;
 pub mod house;
 pub mod joins;
 pub mod sheets;
+pub mod spare;
 pub mod tables;
 pub mod texts;
 

@@ -1,4 +1,4 @@
-//! The compiler: checks 1 to 7, then the rows of every policy node in order (8, 9).
+//! The compiler: checks 1 to 7, then the rows of every policy node that is used, in order (8, 9).
 
 use crate::machine::{Machine, Rows};
 use crate::sheet::{Sheet, Type};
@@ -22,7 +22,8 @@ pub fn compile(sheet: &[u8]) -> Result<Vec<u8>, Refusal> {
     Ok(table::write(matches!(types.last(), Some(Type::Watched(_))), &last))
 }
 
-/// The rows of one node over those of the nodes before it; none for a formula. Refusals 8, 9.
+/// The rows of one node over those of the nodes before it; none for a formula and for a node that is not used. Refusals
+/// 8, 9.
 pub fn build(
     sheet: &Sheet,
     types: &[Type],
@@ -36,7 +37,7 @@ pub fn build(
     }
 }
 
-/// The machine of a node's remembered values; none for a formula. Refusal 8.
+/// The machine of a node's remembered values; none for a formula and for a node that is not used. Refusal 8.
 pub fn machine(
     sheet: &Sheet,
     types: &[Type],
@@ -44,7 +45,7 @@ pub fn machine(
     rows: &[Option<Rows>],
     node: usize,
 ) -> Result<Option<Machine>, u8> {
-    if types[node] == Type::Formula {
+    if matches!(types[node], Type::Formula | Type::Unused) {
         return Ok(None);
     }
     let this = sheet.nodes[node];
@@ -59,7 +60,7 @@ pub fn machine(
     Machine::explore(rule.start(), sheet.actions.len(), MOST_VALUES, step).map(Some).ok_or(8)
 }
 
-/// The machines of all policy nodes, before minimisation, of a sheet that compiles.
+/// The machines of all policy nodes that are used, before minimisation, of a sheet that compiles.
 pub fn machines(sheet: &Sheet) -> Result<Vec<Machine>, Refusal> {
     let types = sheet.types()?;
     let formulas = sheet.formula_sets();

@@ -2,7 +2,7 @@
 
 use crate::compile::build;
 use crate::machine::Rows;
-use crate::sheet::{judge, Node, Sheet, Type, HEADER, NODE};
+use crate::sheet::{check_fields, judge, Node, Sheet, Type, HEADER, NODE};
 
 /// Splitmix64.
 pub struct Random(pub u64);
@@ -74,7 +74,7 @@ pub fn sheet(random: &mut Random, style: Style) -> Sheet {
             node
         });
         let here = types.len();
-        let Ok(this) = judge(&sheet.nodes[here], &types) else {
+        let Ok(this) = check_fields(&sheet.nodes[here], here).and_then(|()| judge(&sheet.nodes[here], &types)) else {
             if style.inside_limits {
                 sheet.nodes.pop();
                 continue;
@@ -100,6 +100,15 @@ pub fn sheet(random: &mut Random, style: Style) -> Sheet {
         }
     }
     sheet
+}
+
+/// The types of all nodes, used or not, of a sheet in which each of them passes 4 to 7.
+pub fn all_types(sheet: &Sheet) -> Vec<Type> {
+    let mut types = Vec::new();
+    for node in &sheet.nodes {
+        types.push(judge(node, &types).expect("a node that passes 4 to 7"));
+    }
+    types
 }
 
 /// Any kind, known or not, with fields near their ranges.

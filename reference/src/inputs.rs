@@ -3,6 +3,7 @@
 pub mod joins;
 pub mod lists;
 pub mod sheets;
+pub mod spare;
 pub mod tables;
 pub mod texts;
 

@@ -1,4 +1,4 @@
-//! Rule sheets: layout (1 to 3), kinds and fields (4, 5), types and bounds (6, 7).
+//! Rule sheets: layout (1 to 3), kinds and fields (4, 5), the nodes that are used, their types and bounds (6, 7).
 
 use crate::{at, word, Refusal};
 
@@ -25,6 +25,11 @@ impl Node {
     pub fn c(&self) -> usize {
         self.parts[2] as usize
     }
+
+    /// The parts that its kind has; none of an unknown kind.
+    pub fn own_parts(&self) -> &[u8] {
+        &self.parts[..fields(self.kind).map_or(0, |(_, parts)| parts)]
+    }
 }
 
 /// The two lists of a sheet.
@@ -34,9 +39,10 @@ pub struct Sheet {
     pub nodes: Vec<Node>,
 }
 
-/// What a node is: an action formula, or a policy with its bound (none: unbounded).
+/// What a node is: an action formula, or a policy with its bound (none: unbounded). A node that is not used has no type.
 #[derive(Clone, Copy, Debug, PartialEq, Eq)]
 pub enum Type {
+    Unused,
     Formula,
     Enforced(Option<u32>),
     Watched(Option<u32>),
@@ -82,12 +88,32 @@ impl Sheet {
         bytes
     }
 
-    /// The types of all nodes: 4 to 7 node by node, then the last node's 6.
+    /// Kinds and fields of all nodes, used or not: 4 and 5 node by node.
+    pub fn check_fields(&self) -> Result<(), Refusal> {
+        let mut nodes = self.nodes.iter().enumerate();
+        nodes.try_for_each(|(place, node)| check_fields(node, place).map_err(|number| at(number, place)))
+    }
+
+    /// Which nodes are used: the last, which is the policy, and every part of one that is. Of a sheet that passes 5.
+    pub fn used(&self) -> Vec<bool> {
+        let mut used = vec![false; self.nodes.len()];
+        let mut met = vec![self.nodes.len() - 1];
+        while let Some(node) = met.pop() {
+            if !std::mem::replace(&mut used[node], true) {
+                met.extend(self.nodes[node].own_parts().iter().map(|&part| part as usize));
+            }
+        }
+        used
+    }
+
+    /// The types of the nodes: 4 and 5 of all of them, then 6 and 7 node by node of those that are used, then the last
+    /// node's 6.
     pub fn types(&self) -> Result<Vec<Type>, Refusal> {
+        self.check_fields()?;
         let mut types = Vec::new();
-        for node in &self.nodes {
-            let this = judge(node, &types).map_err(|number| at(number, types.len()))?;
-            types.push(this);
+        for (place, used) in self.used().into_iter().enumerate() {
+            let this = if used { judge(&self.nodes[place], &types) } else { Ok(Type::Unused) };
+            types.push(this.map_err(|number| at(number, place))?);
         }
         match types.last() {
             Some(Type::Formula) => Err(at(6, types.len() - 1)),
@@ -95,7 +121,7 @@ impl Sheet {
         }
     }
 
-    /// For each formula node the set of actions that satisfy it, bit i for action i; 0 for policies.
+    /// For each formula node that is well typed the set of actions that satisfy it, bit i for action i; 0 for policies.
     pub fn formula_sets(&self) -> Vec<u16> {
         let mut sets: Vec<u16> = Vec::new();
         for node in &self.nodes {
@@ -114,16 +140,21 @@ impl Sheet {
     }
 }
 
-/// Judges one node over the types of those before it: 4, 5, 6, 7.
-pub fn judge(node: &Node, types: &[Type]) -> Result<Type, u8> {
+/// Checks kind and fields of the node of this number: 4, 5.
+pub fn check_fields(node: &Node, place: usize) -> Result<(), u8> {
     let (arguments, parts) = fields(node.kind).ok_or(4)?;
-    let (used, unused) = node.parts.split_at(parts);
-    let parts_lower = used.iter().all(|&part| (part as usize) < types.len());
-    if !arguments.contains(&node.argument) || !parts_lower || unused.iter().any(|&part| part != 0) {
+    let (own, others) = node.parts.split_at(parts);
+    let earlier = own.iter().all(|&part| (part as usize) < place);
+    if !arguments.contains(&node.argument) || !earlier || others.iter().any(|&part| part != 0) {
         return Err(5);
     }
-    let used: Vec<Type> = used.iter().map(|&part| types[part as usize]).collect();
-    let this = type_of(node.kind, node.argument, &used).ok_or(6)?;
+    Ok(())
+}
+
+/// Judges one node that passes 5, over the types of those before it: 6, 7.
+pub fn judge(node: &Node, types: &[Type]) -> Result<Type, u8> {
+    let parts: Vec<Type> = node.own_parts().iter().map(|&part| types[part as usize]).collect();
+    let this = type_of(node.kind, node.argument, &parts).ok_or(6)?;
     match this {
         Type::Enforced(Some(bound)) | Type::Watched(Some(bound)) if bound > LARGEST_BOUND => Err(7),
         _ => Ok(this),

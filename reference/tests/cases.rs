@@ -2,7 +2,7 @@
 
 use reference::cases::histories;
 use reference::cases::{
-    counted, sheets, small_roastery, small_roastery_table, table_bytes, tables, type_byte, Case, Lent, Stated,
+    counted, sheets, small_roastery, small_roastery_table, spare, table_bytes, tables, type_byte, Case, Lent, Stated,
 };
 use reference::corpus::calls::Desk;
 use reference::trees::*;
@@ -54,6 +54,11 @@ fn sheet_of_78_bytes() {
 #[test]
 fn stated_sheets() {
     sheets::all().into_iter().for_each(check);
+}
+
+#[test]
+fn sheets_with_spare_nodes() {
+    spare::all().into_iter().for_each(check);
 }
 
 #[test]

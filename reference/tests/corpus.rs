@@ -32,6 +32,19 @@ fn sheets_cover_kinds_and_refusals() {
     }
 }
 
+/// A sheet with spare nodes and the same without have one table, or one refusal. Both sorts of answers are there.
+#[test]
+fn pairs_agree() {
+    let records = sheets::all();
+    let pairs: Vec<_> = records.windows(2).filter(|pair| pair[0].name == sheets::WITH_SPARE_NODES).collect();
+    for pair in &pairs {
+        assert_eq!(pair[1].name, sheets::WITHOUT_SPARE_NODES);
+        assert_eq!((pair[0].answer[0], &pair[0].table), (pair[1].answer[0], &pair[1].table));
+    }
+    let compiled = pairs.iter().filter(|pair| pair[0].answer[0] == 0).count();
+    assert!(compiled >= 10 && pairs.len() - compiled >= 3, "{compiled} of {}", pairs.len());
+}
+
 /// Every kind is in eight sheets of texts and more, the whole policy of one; every answer is there at least eight times.
 #[test]
 fn texts_cover_kinds_and_answers() {

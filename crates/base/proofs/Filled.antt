@@ -55,3 +55,21 @@ module _ {A : Type 0} (room : ℕ) (blank : A) (next : ℕ → List A → A) whe
       go : (n < j → j ≤ room → getD (upTo j) n blank ≡ next n (upTo n)) → Dec (n ≡ j) → getD (upTo (suc j)) n blank ≡ next n (upTo n)
       go ih (yes p) = rw p (getD-set-same (upTo j) j (next j (upTo j)) blank (omega (arith, length-filled j)))
       go ih (no q) = getD-set-other (upTo j) j n (next j (upTo j)) blank q ∙ ih (omega arith) (omega arith)
+
+  -- what is not filled yet is blank
+  filled-behind : (j n : ℕ) → j ≤ n → getD (filled room blank next j) n blank ≡ blank
+  filled-behind zero n h = getD-blank room n blank
+  filled-behind (suc j) n h = getD-set-other (upTo j) j n (next j (upTo j)) blank (λ e. omega arith) ∙ filled-behind j n (omega arith)
+
+  -- A place that is filled with a blank can be left as it is.
+  pub filled-skip : (n : ℕ) → next n (filled room blank next n) ≡ blank → filled room blank next (suc n) ≡ filled room blank next n
+  filled-skip n e = ext-getD blank (upTo (suc n)) (upTo n) (length-set (upTo n) n (next n (upTo n))) at
+    where
+      at : (i : ℕ) → i < length (upTo (suc n)) → getD (upTo (suc n)) i blank ≡ getD (upTo n) i blank
+      at i h = elim (ℕ-discrete i n) [
+        | yes p ↦
+            rw p
+            (getD-set-same (upTo n) n (next n (upTo n)) blank (omega (arith, p, h, length-set (upTo n) n (next n (upTo n)))) ∙ e
+            ∙ sym (filled-behind n n (omega arith)))
+        | no q ↦ getD-set-other (upTo n) n i (next n (upTo n)) blank q
+      ]

@@ -11,14 +11,17 @@ use Rattle.trace.specs.Trace.{Sequence, Step, go, run}
 use Rattle.automaton.specs.Minimal.{RowsOf}
 use Rattle.policy.specs.Rule.{ruleOf}
 use Rattle.policy.specs.Closed.{answer}
+use Rattle.policy.specs.declared.Bound.{Bound}
 use Rattle.table.specs.Answer.{refused}
 use Rattle.syntax.specs.Nodes.{propositionsOf}
 use Rattle.syntax.specs.Types.{typeAt}
 use Rattle.syntax.specs.Meaning.{nodePolicy}
-use Rattle.syntax.specs.Typed.{SoundSheet}
+use Rattle.typing.specs.Typed.{SoundSheet}
+use Rattle.syntax.specs.declared.NodeType.the-variants.{Policy}
 use Rattle.syntax.specs.declared.Sheet.{Sheet}
 use Rattle.syntax.specs.declared.TypedNode.{TypedNode}
 use Rattle.syntax.proofs.NodeTypes.{PolicyBefore}
+use Rattle.typing.proofs.Sound.{typed-used, typed-policy}
 use Rattle.rules.specs.Codes.{encode}
 use Rattle.rules.specs.Rules.{slotAt, partAt, ruleAt}
 use Rattle.rules.specs.Steps.{codeStep, codeStart}
@@ -37,6 +40,11 @@ use Rattle.compiler.specs.Compiles.{PolicyNode, BuiltBefore, Builds, sto
 use Rattle.compiler.proofs.NodeRuns.{RowsAt, injective, codes}
 use Rattle.compiler.proofs.SlotTables.{slotTables, slot-table, slot-part}
 
+-- what is typed as a policy is a used policy node
+pub policy-node : {mode : Mode} {sheet : Sheet} {types : List TypedNode} → SoundSheet mode sheet types → (n : ℕ) → n < sheet .count
+    → {m : Mode} {k : Bound} → typeAt types n ≡ Policy m k → PolicyNode sheet types n
+policy-node right n h {m} {k} e = record { used = typed-used right n h (typed-policy e); mode = m; bound = k; is = e }
+
 module _ {mode : Mode} {sheet : Sheet} {types : List TypedNode} (right : SoundSheet mode sheet types) (valueLimit rowLimit : ℕ) (small : rowLimit ≤ 64)
     (n : ℕ) (within : n ≤ sheet .count) (work : List ℕ) (built : BuiltTo (rulesOf sheet types) (sheet .actions) valueLimit rowLimit n work) where
   abbrev A : ℕ
@@ -47,7 +55,7 @@ module _ {mode : Mode} {sheet : Sheet} {types : List TypedNode} (right : SoundSh
   tables = slotTables (rulesOf sheet types) A valueLimit rowLimit n work built
 
   -- a policy node i, up to n, whose parts have their rows
-  module _ (i : ℕ) (low : i ≤ n) (here : i < sheet .count) (policy : PolicyNode types i)
+  module _ (i : ℕ) (low : i ≤ n) (here : i < sheet .count) (policy : PolicyNode sheet types i)
       (before : (j : ℕ) → PolicyBefore (typeAt types) i j → RowsAt sheet tables j) where
     facts : NodeFacts sheet types i (policy .mode) (policy .bound)
     facts = node-facts sheet types right i here (policy .is)
@@ -97,12 +105,12 @@ module _ {mode : Mode} {sheet : Sheet} {types : List TypedNode} (right : SoundSh
         }
 
   -- by induction, every policy node before n is
-  built-below : (m i : ℕ) → i < m → i < n → PolicyNode types i → Built sheet tables valueLimit rowLimit i
+  built-below : (m i : ℕ) → i < m → i < n → PolicyNode sheet types i → Built sheet tables valueLimit rowLimit i
   built-below zero i h g p = absurd (omega arith)
   built-below (suc m) i h g p = node (λ j l q. built-below m j (omega arith) (omega arith) q)
     where
-      node : ((j : ℕ) → j < i → PolicyNode types j → Built sheet tables valueLimit rowLimit j) → Built sheet tables valueLimit rowLimit i
-      node ih = is-built i (omega arith) (omega arith) p (λ j e. rows-at (ih j (e .before) (record { mode = e .mode; bound = e .bound; is = e .is }))) g
+      node : ((j : ℕ) → j < i → PolicyNode sheet types j → Built sheet tables valueLimit rowLimit j) → Built sheet tables valueLimit rowLimit i
+      node ih = is-built i (omega arith) (omega arith) p (λ j e. rows-at (ih j (e .before) (policy-node right j (omega arith) (e .is)))) g
         where
           rows-at : {j : ℕ} → Built sheet tables valueLimit rowLimit j → RowsAt sheet tables j
           rows-at b = record { rows = b .rows; few = let h = b .few-rows in omega arith; fits = b .fits }
@@ -111,15 +119,15 @@ module _ {mode : Mode} {sheet : Sheet} {types : List TypedNode} (right : SoundSh
   built-before i h p = built-below (suc i) i (omega arith) h p
 
   rows-before : (i : ℕ) → i ≤ n → (j : ℕ) → PolicyBefore (typeAt types) i j → RowsAt sheet tables j
-  rows-before i l j e = from (built-before j (let b = e .before in omega arith) (record { mode = e .mode; bound = e .bound; is = e .is }))
+  rows-before i l j e = from (built-before j (let b = e .before in omega arith) (policy-node right j (omega arith) (e .is)))
     where
       from : Built sheet tables valueLimit rowLimit j → RowsAt sheet tables j
       from b = record { rows = b .rows; few = let h = b .few-rows in omega arith; fits = b .fits }
 
   -- node n is a rule
   module _ (inside : n < sheet .count) (rule : NodeRule) (is : ruleAt (rulesOf sheet types) n ≡ AsRule rule) where
-    policy : PolicyNode types n
-    policy = let f = rule-facts sheet types right n inside rule is in record { mode = f .mode; bound = f .bound; is = f .is }
+    policy : PolicyNode sheet types n
+    policy = policy-node right n inside (rule-facts sheet types right n inside rule is .is)
 
     same : rule ≡ lowered n (omega arith) inside policy (rows-before n (omega arith)) .code
     same = let e = sym is ∙ lowered n (omega arith) inside policy (rows-before n (omega arith)) .is in cc
@@ -142,7 +150,7 @@ module _ {mode : Mode} {sheet : Sheet} {types : List TypedNode} (right : SoundSh
         (over-rows n (omega arith) inside policy (rows-before n (omega arith)) (subst (λ (r : NodeRule). OverStates A (codeStep A work r) (codeStart A work r) rowLimit) same o)))
 
   -- the rows that a slot before n was built with are its node's
-  pub last-rows : (i : ℕ) → i < n → (policy : PolicyNode types i) (rule : NodeRule) → ruleAt (rulesOf sheet types) i ≡ AsRule rule
+  pub last-rows : (i : ℕ) → i < n → (policy : PolicyNode sheet types i) (rule : NodeRule) → ruleAt (rulesOf sheet types) i ≡ AsRule rule
       → (b : RuleBuilt A valueLimit rowLimit work i rule) → RowsOf A (tripsNode sheet i) (b .rows) (take (b .rows * A) (slotAt work i))
   last-rows i h policy rule is b =
       rows-are i (omega arith) (omega arith) policy (rows-before i (omega arith)) (b .rows) (take (b .rows * A) (slotAt work i))

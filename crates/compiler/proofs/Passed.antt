@@ -4,10 +4,10 @@ use mathlib.Core.Path.{_≡_}
 use mathlib.Core.List.{List}
 use Prim.Native.Nat.{ℕ}
 use Rattle.trace.specs.declared.Mode.{Mode}
-use Rattle.syntax.specs.Typed.{sound, SoundSheet}
+use Rattle.typing.specs.Typed.{sound, SoundSheet}
 use Rattle.syntax.specs.declared.Sheet.{Sheet}
 use Rattle.syntax.specs.declared.TypedNode.{TypedNode}
-use Rattle.syntax.proofs.Sound.{judged-sound}
+use Rattle.typing.proofs.Sound.{judged-sound}
 use Rattle.sheet.specs.Judge.{judge}
 use Rattle.sheet.proofs.ReadFrom.{judged-formed}
 

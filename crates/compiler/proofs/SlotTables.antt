@@ -11,7 +11,7 @@ use Rattle.automaton.specs.Machine.{transition, entryMove}
 use Rattle.rules.specs.Rules.{slotAt, partAt, ruleAt}
 use Rattle.rules.specs.declared.NodeRule.{NodeRule}
 use Rattle.rules.specs.declared.Lowered.{Lowered}
-use Rattle.rules.specs.declared.Lowered.the-variants.{AsRule, AsFormula}
+use Rattle.rules.specs.declared.Lowered.the-variants.{AsRule, NoRule}
 use Rattle.rules.specs.declared.RuleAt.{RuleAt}
 use Rattle.rule_rows.specs.Lists.{RuleBuilt, BuiltTo}
 
@@ -22,7 +22,7 @@ module _ (rules : List RuleAt) (actions valueLimit rowLimit n : ℕ) (work : Lis
 
   entriesBy : (i : ℕ) → Dec (i < n) → (l : Lowered) → ruleAt rules i ≡ l → List ℕ
   entriesBy i (yes h) (AsRule rule) e = take (built .each i h rule e .rows * actions) (slotAt work i)
-  entriesBy i (yes h) AsFormula e = []
+  entriesBy i (yes h) NoRule e = []
   entriesBy i (no h) l e = []
 
   -- The rows of each node before n; nothing for a formula, and for the nodes behind.
@@ -37,7 +37,7 @@ module _ (rules : List RuleAt) (actions valueLimit rowLimit n : ℕ) (work : Lis
       by (yes g) (AsRule other) q =
           let same : other ≡ rule = let d = sym q ∙ e in cc in
           subst (λ (r : NodeRule). (s : Slot r i) × (entriesBy i (yes g) (AsRule other) q ≡ take (s .rows * actions) (slotAt work i))) same (built .each i g other q, refl)
-      by (yes g) AsFormula q = absurd (let d = sym q ∙ e in let z : _≡_ {A = ℕ} 0 1 = cc in omega arith)
+      by (yes g) NoRule q = absurd (let d = sym q ∙ e in let z : _≡_ {A = ℕ} 0 1 = cc in omega arith)
       by (no g) l q = absurd (g h)
 
   -- the slot, read as a machine, is the machine of its rows

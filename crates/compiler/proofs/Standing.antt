@@ -11,7 +11,7 @@ use Rattle.automaton.specs.Minimal.{RowsOf}
 use Rattle.automaton.proofs.MinimalRows.{rows-unique}
 use Rattle.table.specs.Answer.{refused}
 use Rattle.making.specs.Making.{Workable}
-use Rattle.syntax.specs.Typed.{sound, SoundSheet}
+use Rattle.typing.specs.Typed.{sound, SoundSheet}
 use Rattle.syntax.specs.declared.Sheet.{Sheet}
 use Rattle.syntax.specs.declared.TypedNode.{TypedNode}
 use Rattle.sheet.specs.Judge.{judge}
@@ -71,8 +71,8 @@ module _ {mode : Mode} {sheet : Sheet} {types : List TypedNode} (right : SoundSh
       below : last < sheet .count
       below = omega (arith, right .formed .some-node)
 
-      policy : PolicyNode types last
-      policy = record { mode = mode; bound = right .bound; is = right .last }
+      policy : PolicyNode sheet types last
+      policy = nodes.policy-node right last below (right .last)
 
       abbrev tables : Tables
       tables = nodes.tables right valueLimit rowLimit small (sheet .count) (omega arith) work built
@@ -91,7 +91,7 @@ module _ {mode : Mode} {sheet : Sheet} {types : List TypedNode} (right : SoundSh
       same : (count ≡ own .rows) × (take (count * A) (slotAt work last) ≡ tables last)
       same = rows-unique (right .formed .some-action) rows-are (own .fits)
 
-      stands : (i : ℕ) → i < sheet .count → PolicyNode types i → Stands sheet tables work i
+      stands : (i : ℕ) → i < sheet .count → PolicyNode sheet types i → Stands sheet tables work i
       stands i h p =
           let l = policy-right sheet (λ k. Unit {0}) types right i h (λ k q. tt) (p .is) in
           record {

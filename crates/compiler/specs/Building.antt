@@ -1,4 +1,4 @@
--- What building a sheet's nodes leaves in the work area: the rows of each policy node at the front of its slot.
+-- What building a sheet's used nodes leaves in the work area: the rows of each policy node at the front of its slot.
 -- Assumes nothing.
 use mathlib.Core.Path.{_≡_}
 use mathlib.Core.List.{List, []}
@@ -7,7 +7,7 @@ use lib.ListN.{take}
 use Rattle.trace.specs.declared.Mode.{Mode}
 use Rattle.table.specs.Answer.{refused}
 use Rattle.syntax.specs.Faults.{numberOf, spotOf}
-use Rattle.syntax.specs.Typed.{sound}
+use Rattle.typing.specs.Typed.{sound}
 use Rattle.syntax.specs.declared.Sheet.{Sheet}
 use Rattle.syntax.specs.declared.TypedNode.{TypedNode}
 use Rattle.sheet.specs.Judge.{judge}
@@ -23,11 +23,11 @@ pub record Stands (sheet : Sheet) (tables : Tables) (work : List ℕ) (i : ℕ) 
   pub readable : Readable work i
   pub machine : partAt (sheet .actions) work i ≡ partOf sheet tables i
 
--- Every policy node is inside both limits, and its rows stand in its slot; the last node has so many.
+-- Every used policy node is inside both limits, and its rows stand in its slot; the last node has so many.
 pub record NodesStand (sheet : Sheet) (types : List TypedNode) (valueLimit rowLimit rows : ℕ) (work : List ℕ) : Type 0 where
   pub tables : Tables
   pub built : BuiltBefore sheet types tables valueLimit rowLimit (sheet .count)
-  pub stand : (i : ℕ) → i < sheet .count → PolicyNode types i → Stands sheet tables work i
+  pub stand : (i : ℕ) → i < sheet .count → PolicyNode sheet types i → Stands sheet tables work i
   pub last : Built sheet tables valueLimit rowLimit (sheet .count - 1)
   pub counted : rows ≡ last .rows
   pub entries : take (rows * sheet .actions) (slotAt work (sheet .count - 1)) ≡ tables (sheet .count - 1)

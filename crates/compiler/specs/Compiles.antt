@@ -9,7 +9,8 @@ use Rattle.table.specs.Answer.{Answer, accepted, refused, modeNumber}
 use Rattle.making.specs.Making.{tableBytes}
 use Rattle.syntax.specs.Types.{typeAt}
 use Rattle.syntax.specs.Faults.{numberOf, spotOf}
-use Rattle.syntax.specs.Typed.{faulty, sound}
+use Rattle.reached.specs.Parts.{Used}
+use Rattle.typing.specs.Typed.{faulty, sound}
 use Rattle.syntax.specs.declared.Sheet.{Sheet}
 use Rattle.syntax.specs.declared.TypedNode.{TypedNode}
 use Rattle.syntax.specs.declared.Fault.{Fault}
@@ -18,15 +19,16 @@ use Rattle.sheet.specs.Judge.{judge}
 use Rattle.node_rules.specs.Nodes.{Tables}
 use Rattle.compiler.specs.Limits.{OverValues, OverRows, Built}
 
--- Node n is a policy.
-pub record PolicyNode (types : List TypedNode) (n : ℕ) : Type 0 where
+-- Node n is used, and a policy.
+pub record PolicyNode (sheet : Sheet) (types : List TypedNode) (n : ℕ) : Type 0 where
+  pub used : Used sheet n
   pub mode : Mode
   pub bound : Bound
   pub is : typeAt types n ≡ Policy mode bound
 
--- Every policy node before n is inside both limits, with its rows.
+-- Every used policy node before n is inside both limits, with its rows.
 abbrev pub BuiltBefore : Sheet → List TypedNode → Tables → ℕ → ℕ → ℕ → Type 0
-BuiltBefore sheet types tables valueLimit rowLimit n = (i : ℕ) → i < n → PolicyNode types i → Built sheet tables valueLimit rowLimit i
+BuiltBefore sheet types tables valueLimit rowLimit n = (i : ℕ) → i < n → PolicyNode sheet types i → Built sheet tables valueLimit rowLimit i
 
 -- Node n is the first over a limit, and which.
 pub data StopsAt (sheet : Sheet) (tables : Tables) (valueLimit rowLimit n : ℕ) : ℕ → Type 0 where
@@ -38,10 +40,10 @@ pub data StopsAt (sheet : Sheet) (tables : Tables) (valueLimit rowLimit n : ℕ)
 -- What a sheet that passes checks 1 to 7 gives. The limits on remembered values and rows are parameters. The list is the table's bytes, empty
 -- for a refusal.
 pub data Builds (mode : Mode) (sheet : Sheet) (types : List TypedNode) (valueLimit rowLimit : ℕ) : Answer → List ℕ → Type 0 where
-  -- 8 or 9 at node n: every earlier policy node is inside both limits, and n is over one
-  stops : (tables : Tables) (n number : ℕ) → n < sheet .count → BuiltBefore sheet types tables valueLimit rowLimit n → PolicyNode types n
+  -- 8 or 9 at node n, a used one: every earlier used policy node is inside both limits, and n is over one
+  stops : (tables : Tables) (n number : ℕ) → n < sheet .count → BuiltBefore sheet types tables valueLimit rowLimit n → PolicyNode sheet types n
       → StopsAt sheet tables valueLimit rowLimit n number → Builds mode sheet types valueLimit rowLimit (refused number n) []
-  -- a table: every policy node is inside both limits; the rows are those of the last node
+  -- a table: every used policy node is inside both limits; the rows are those of the last node
   builds : (tables : Tables) → BuiltBefore sheet types tables valueLimit rowLimit (sheet .count)
       → (last : Built sheet tables valueLimit rowLimit (sheet .count - 1))
       → Builds mode sheet types valueLimit rowLimit (accepted (modeNumber mode) (sheet .actions) (last .rows))

@@ -6,7 +6,7 @@ use sheet::SheetFound;
 use syntax::Sheet;
 use syntax::TypedNode;
 use trace::Mode;
-ghost use Rattle.syntax.specs.Typed.{SoundSheet};
+ghost use Rattle.typing.specs.Typed.{SoundSheet};
 ghost use Rattle.making.specs.Making.{Workable};
 ghost use Rattle.compiler.specs.Building.{NodesTo, SheetTo};
 

@@ -54,7 +54,7 @@ pub refusal-leaves-output : {bytes out work values out' work' values' : List ℕ
 refusal-leaves-output {bytes} = refused-leaves (Compiles bytes 1024 64) (λ t c. compiled-none c)
 
 -- The table is the front of the output, as long as its counts say.
-table-size : (bytes written : List ℕ) {type actions rows : ℕ} → Compiles bytes 1024 64 (accepted type actions rows) written → length written ≡ 8 + rows * actions
+pub table-size : (bytes written : List ℕ) {type actions rows : ℕ} → Compiles bytes 1024 64 (accepted type actions rows) written → length written ≡ 8 + rows * actions
 table-size bytes written c = let t = compiled-as bytes 1024 64 (omega arith) c .table in t .accepted .formed .whole ∙ rw (t .rows-are, t .actions-are)
 
 pub table-in-output : {bytes out work values out' work' values' : List ℕ} {type actions rows : ℕ}

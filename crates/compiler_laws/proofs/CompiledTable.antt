@@ -18,10 +18,10 @@ use Rattle.table.specs.Table.{typeOf, actionsOf, rowsOf, entriesOf, Accepted, j
 use Rattle.table.specs.Answer.{accepted as accepts, modeNumber}
 use Rattle.syntax.specs.Nodes.{propositionsOf}
 use Rattle.syntax.specs.Meaning.{sheetPolicy}
-use Rattle.syntax.specs.Typed.{sound, SoundSheet}
+use Rattle.typing.specs.Typed.{sound, SoundSheet}
 use Rattle.syntax.specs.declared.Sheet.{Sheet}
 use Rattle.syntax.specs.declared.TypedNode.{TypedNode}
-use Rattle.syntax.proofs.Meanings.{policy-of}
+use Rattle.typing.proofs.Meanings.{policy-of}
 use Rattle.sheet.specs.Judge.{judge}
 use Rattle.node_rules.specs.Nodes.{tripsNode}
 use Rattle.making.proofs.TableBytes.{MadeOf, made-of}

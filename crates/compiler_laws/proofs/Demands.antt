@@ -14,7 +14,7 @@ use Rattle.table.specs.Answer.{Answer, accepted, refused, modeNumber}
 use Rattle.table.proofs.Verdicts.{equal-exactly-when-same-verdicts, accepted-has-fewest-rows}
 use Rattle.syntax.specs.Nodes.{propositionsOf}
 use Rattle.syntax.specs.Meaning.{sheetPolicy}
-use Rattle.syntax.specs.Typed.{sound, SoundSheet}
+use Rattle.typing.specs.Typed.{sound, SoundSheet}
 use Rattle.syntax.specs.declared.Sheet.{Sheet}
 use Rattle.syntax.specs.declared.TypedNode.{TypedNode}
 use Rattle.trace.specs.declared.Mode.{Mode}
@@ -23,6 +23,7 @@ use Rattle.node_rules.specs.Nodes.{Tables}
 use Rattle.compiler.specs.Limits.{OverValues, Built}
 use Rattle.making.specs.Making.{IsTable, tableBytes}
 use Rattle.compiler.specs.Compiles.{PolicyNode, BuiltBefore, StopsAt, values, rows, Builds, stops, builds, Compiles, faulted, passes}
+use Rattle.compiler.proofs.BuiltNodes.{policy-node}
 use Rattle.compiler.proofs.Passed.{passed}
 use Rattle.compiler_laws.specs.Demands.{ReadAs, GetsTable, InsideLimits, NoneOver, NoRefusal, OneActionList, SameSatisfied}
 use Rattle.compiler_laws.proofs.Outcome.{over-values-same, tables-agree, not-faulty, compiles-determined}
@@ -42,7 +43,8 @@ module _ (bytes : List ℕ) (valueLimit rowLimit : ℕ) where
     where
       from : SoundSheet (inside .read .mode) (inside .sheet) (inside .read .types) → GetsTable bytes valueLimit rowLimit
       from right =
-          of (inside .built (inside .sheet .count - 1) (omega (arith, right .formed .some-node)) (record { mode = inside .read .mode; bound = right .bound; is = right .last }))
+          let below : inside .sheet .count - 1 < inside .sheet .count = omega (arith, right .formed .some-node) in
+          of (inside .built (inside .sheet .count - 1) below (policy-node right (inside .sheet .count - 1) below (right .last)))
         where
           of : Built (inside .sheet) (inside .tables) valueLimit rowLimit (inside .sheet .count - 1) → GetsTable bytes valueLimit rowLimit
           of b =
@@ -79,7 +81,7 @@ module _ (bytes : List ℕ) (valueLimit rowLimit : ℕ) where
       right = passed bytes (inside .read .judged)
 
       over-values : (tables : Tables) (n : ℕ) → n < inside .sheet .count → BuiltBefore (inside .sheet) (inside .read .types) tables valueLimit rowLimit n
-          → PolicyNode (inside .read .types) n → OverValues (inside .sheet) tables n valueLimit → ⊥
+          → PolicyNode (inside .sheet) (inside .read .types) n → OverValues (inside .sheet) tables n valueLimit → ⊥
       over-values tables n h built p over =
           inside .built n h p .few-values
           (over-values-same right n h p tables (inside .tables)
@@ -106,7 +108,7 @@ module _ (bytes : List ℕ) (valueLimit rowLimit : ℕ) where
         same-types = cc (u .read .judged)
 
     stops-none : {sheet : Sheet} {types : List TypedNode} {tables : Tables} {n number : ℕ} → NoneOver sheet types valueLimit rowLimit → n < sheet .count
-        → BuiltBefore sheet types tables valueLimit rowLimit n → PolicyNode types n → StopsAt sheet tables valueLimit rowLimit n number → ⊥
+        → BuiltBefore sheet types tables valueLimit rowLimit n → PolicyNode sheet types n → StopsAt sheet tables valueLimit rowLimit n number → ⊥
     stops-none {tables = tables} {n} none h built p (values over) = none .few-values tables n h built p over
     stops-none {tables = tables} {n} none h built p (rows few over) = none .few-rows tables n h built p over
 

@@ -6,3 +6,6 @@ pub mod Spots
 pub mod TooLong
 pub mod Calls
 pub mod Unread
+pub mod NodesAlong
+pub mod BuiltAlong
+pub mod SpareNodes

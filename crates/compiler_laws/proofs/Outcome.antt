@@ -14,7 +14,7 @@ use Rattle.policy.specs.Value.{Part, remembered}
 use Rattle.table.specs.Answer.{Answer, refused}
 use Rattle.syntax.specs.Faults.{numberOf, spotOf}
 use Rattle.syntax.specs.Types.{typeAt}
-use Rattle.syntax.specs.Typed.{faulty, sound, SoundSheet}
+use Rattle.typing.specs.Typed.{faulty, sound, SoundSheet}
 use Rattle.syntax.specs.declared.Sheet.{Sheet}
 use Rattle.syntax.specs.declared.TypedNode.{TypedNode}
 use Rattle.syntax.specs.declared.Fault.{Fault}
@@ -25,17 +25,18 @@ use Rattle.node_rules.specs.Nodes.{Tables, tripsNode, nodeRule, partOf, ruleOn}
 use Rattle.node_rules.proofs.Facts.{node-facts}
 use Rattle.compiler.specs.Limits.{OverValues, Built}
 use Rattle.compiler.specs.Compiles.{PolicyNode, BuiltBefore, StopsAt, values, rows, Builds, stops, builds, Compiles, faulted, passes}
+use Rattle.compiler.proofs.BuiltNodes.{policy-node}
 use Rattle.compiler.proofs.Passed.{passed}
 
--- Two lists of rows agree on the policy nodes before n.
-abbrev pub AgreeBefore : List TypedNode → Tables → Tables → ℕ → Type 0
-AgreeBefore types tables other n = (i : ℕ) → i < n → PolicyNode types i → tables i ≡ other i
+-- Two lists of rows agree on the used policy nodes before n.
+abbrev pub AgreeBefore : Sheet → List TypedNode → Tables → Tables → ℕ → Type 0
+AgreeBefore sheet types tables other n = (i : ℕ) → i < n → PolicyNode sheet types i → tables i ≡ other i
 
 module _ {mode : Mode} {sheet : Sheet} {types : List TypedNode} (right : SoundSheet mode sheet types) where
   -- Refusal 8 depends on the rows of the parts alone.
-  module _ (n : ℕ) (inside : n < sheet .count) (policy : PolicyNode types n) (tables other : Tables) (agree : AgreeBefore types tables other n) where
+  module _ (n : ℕ) (inside : n < sheet .count) (policy : PolicyNode sheet types n) (tables other : Tables) (agree : AgreeBefore sheet types tables other n) where
     part-same : (i : ℕ) → PolicyBefore (typeAt types) n i → partOf sheet tables i ≡ partOf sheet other i
-    part-same i e = ap (transition 255 (sheet .actions)) (agree i (e .before) (record { mode = e .mode; bound = e .bound; is = e .is }))
+    part-same i e = ap (transition 255 (sheet .actions)) (agree i (e .before) (policy-node right i (omega (arith, e .before)) (e .is)))
 
     rule-same : ruleOn sheet tables n ≡ ruleOn sheet other n
     rule-same =
@@ -48,7 +49,7 @@ module _ {mode : Mode} {sheet : Sheet} {types : List TypedNode} (right : SoundSh
   module _ (valueLimit rowLimit : ℕ) where
     -- nodes inside the limits have the same rows, whoever built them
     pub tables-agree : (tables other : Tables) (n m : ℕ) → n ≤ m → BuiltBefore sheet types tables valueLimit rowLimit n
-        → BuiltBefore sheet types other valueLimit rowLimit m → AgreeBefore types tables other n
+        → BuiltBefore sheet types other valueLimit rowLimit m → AgreeBefore sheet types tables other n
     tables-agree tables other n m l built built' i h p = rows-unique (right .formed .some-action) (built i h p .fits) (built' i (omega arith) p .fits) .1
 
     -- node n is the first over a limit
@@ -56,7 +57,7 @@ module _ {mode : Mode} {sheet : Sheet} {types : List TypedNode} (right : SoundSh
       tables : Tables
       inside : n < sheet .count
       built : BuiltBefore sheet types tables valueLimit rowLimit n
-      policy : PolicyNode types n
+      policy : PolicyNode sheet types n
       over : StopsAt sheet tables valueLimit rowLimit n number
 
     -- a node that is over a limit is not inside the limits

@@ -5,12 +5,12 @@ use Prim.Native.Nat.{ℕ, _<_}
 use native.Mathlib.Omega.{arith}
 use Rattle.trace.specs.declared.Mode.{Mode}
 use Rattle.table.specs.Answer.{refused}
-use Rattle.syntax.specs.Typed.{SoundSheet}
+use Rattle.typing.specs.Typed.{SoundSheet}
 use Rattle.syntax.specs.declared.Sheet.{Sheet}
 use Rattle.syntax.specs.declared.TypedNode.{TypedNode}
 use Rattle.sheet.proofs.Spots.{number-small, spot-small}
 use Rattle.node_rules.specs.Nodes.{Tables}
-use Rattle.compiler.specs.Compiles.{StopsAt, values, rows, Builds, stops, builds, Compiles, faulted, passes}
+use Rattle.compiler.specs.Compiles.{StopsAt, values, rows, Builds, stops, Compiles, faulted, passes}
 use Rattle.compiler.proofs.Passed.{passed}
 
 stop-low : {sheet : Sheet} {tables : Tables} {valueLimit rowLimit n number : ℕ} → StopsAt sheet tables valueLimit rowLimit n number → number < 10

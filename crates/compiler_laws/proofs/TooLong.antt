@@ -1,16 +1,14 @@
 -- A sheet over 65,535 bytes is refused with 1: no total says its length.
 -- Assumes nothing.
-use mathlib.Core.Path.{_≡_, refl}
+use mathlib.Core.Path.{_≡_}
 use mathlib.Core.List.{List}
 use Prim.Native.Nat.{ℕ, _<_}
 use native.Mathlib.Omega.{arith}
 use lib.ListN.{length, getD}
 use borrow.Author.Tests.{le-leb, ne-eqb}
 use Rattle.table.specs.Answer.{Answer, refused}
-use Rattle.syntax.specs.Typed.{faulty}
-use Rattle.syntax.specs.declared.Fault.{Fault}
+use Rattle.typing.specs.Typed.{faulty}
 use Rattle.syntax.specs.declared.Fault.the-variants.{Length}
-use Rattle.syntax.specs.Faults.{numberOf, spotOf}
 use Rattle.sheet.specs.Layout.{total}
 use Rattle.sheet.specs.Judge.{judge}
 use Rattle.compiler.specs.Compiles.{Compiles, faulted, passes}

@@ -10,7 +10,7 @@ use Rattle.policy.specs.Policy.{satisfies}
 use Rattle.table.specs.Answer.{accepted}
 use Rattle.syntax.specs.Nodes.{propositionsOf}
 use Rattle.syntax.specs.Meaning.{sheetPolicy}
-use Rattle.syntax.specs.Typed.{sound}
+use Rattle.typing.specs.Typed.{sound}
 use Rattle.syntax.specs.declared.Sheet.{Sheet}
 use Rattle.syntax.specs.declared.TypedNode.{TypedNode}
 use Rattle.sheet.specs.Judge.{judge}
@@ -32,21 +32,21 @@ pub record GetsTable (bytes : List ℕ) (valueLimit rowLimit : ℕ) : Type 0 whe
   pub written : List ℕ
   pub compiles : Compiles bytes valueLimit rowLimit (accepted type actions rows) written
 
--- They are well formed and well typed, and every policy node is inside both limits, with its rows.
+-- They are well formed, their used nodes are well typed, and every used policy node is inside both limits, with its rows.
 pub record InsideLimits (bytes : List ℕ) (valueLimit rowLimit : ℕ) : Type 0 where
   pub sheet : Sheet
   pub read : ReadAs bytes sheet
   pub tables : Tables
   pub built : BuiltBefore sheet (read .types) tables valueLimit rowLimit (sheet .count)
 
--- No policy node whose earlier ones are inside the limits is over a limit.
+-- No used policy node whose earlier ones are inside the limits is over a limit.
 pub record NoneOver (sheet : Sheet) (types : List TypedNode) (valueLimit rowLimit : ℕ) : Type 0 where
-  pub few-values : (tables : Tables) (n : ℕ) → n < sheet .count → BuiltBefore sheet types tables valueLimit rowLimit n → PolicyNode types n
+  pub few-values : (tables : Tables) (n : ℕ) → n < sheet .count → BuiltBefore sheet types tables valueLimit rowLimit n → PolicyNode sheet types n
       → OverValues sheet tables n valueLimit → ⊥
-  pub few-rows : (tables : Tables) (n : ℕ) → n < sheet .count → BuiltBefore sheet types tables valueLimit rowLimit n → PolicyNode types n
+  pub few-rows : (tables : Tables) (n : ℕ) → n < sheet .count → BuiltBefore sheet types tables valueLimit rowLimit n → PolicyNode sheet types n
       → OverRows sheet n rowLimit → ⊥
 
--- None of the refusals 1 to 9 applies: checks 1 to 7 pass, and no node is over a limit.
+-- None of the refusals 1 to 9 applies: checks 1 to 7 pass, and no used node is over a limit.
 pub record NoRefusal (bytes : List ℕ) (valueLimit rowLimit : ℕ) : Type 0 where
   pub sheet : Sheet
   pub read : ReadAs bytes sheet

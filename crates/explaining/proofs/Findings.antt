@@ -17,17 +17,18 @@ use Rattle.policy.proofs.Congruent.{sequence-take}
 use Rattle.syntax.specs.Nodes.{propositionsOf}
 use Rattle.syntax.specs.Types.{typeAt}
 use Rattle.syntax.specs.Meaning.{nodePolicy}
-use Rattle.reached.specs.Reached.{itself, ReachedByAnd, andSets, reachedSet}
+use Rattle.reached.specs.Reached.{itself}
+use Rattle.reached.specs.Parts.{ReachedByAnd, andSet}
 use Rattle.syntax.specs.declared.NodeType.the-variants.{Policy}
 use Rattle.syntax.specs.declared.Sheet.{Sheet}
-use Rattle.syntax.proofs.Meanings.{policy-of}
-use Rattle.reached.proofs.ReachedSets.{reached-by-and}
+use Rattle.typing.proofs.Meanings.{policy-of}
+use Rattle.reached.proofs.NodeSets.{reached-by-and, all-earlier}
 use Rattle.rules.specs.Rules.{partAt, Readable}
 use Rattle.compiler.specs.Compiles.{PolicyNode}
 use Rattle.explaining.specs.Denials.{policyNode, satisfiesNode, NoneDenied, FirstDenied, LowestViolated}
 use Rattle.explaining.specs.Reading.{Walkable, FirstTrip, Namable, LowestTrips, Standing}
 use Rattle.explaining.proofs.Walks.{front-untripped}
-use Rattle.explaining.proofs.ReachedNodes.{policy-inside, all-earlier, reached-inside, reached-mode}
+use Rattle.explaining.proofs.ReachedNodes.{policy-inside, reached-inside, reached-used, reached-mode}
 
 module _ {sheet : Sheet} {work : List ℕ} (s : Standing Enforced sheet work) where
   abbrev A : ℕ
@@ -44,8 +45,8 @@ module _ {sheet : Sheet} {work : List ℕ} (s : Standing Enforced sheet work) wh
     mode : (bound : Bound) × (typeAt (s .types) n ≡ Policy Enforced bound)
     mode = reached-mode (s .right) reached
 
-    policy : PolicyNode (s .types) n
-    policy = record { mode = Enforced; bound = mode .0; is = mode .1 }
+    policy : PolicyNode sheet (s .types) n
+    policy = record { used = reached-used (s .right) reached; mode = Enforced; bound = mode .0; is = mode .1 }
 
     pub reached-readable : Readable work n
     reached-readable = s .nodes .stand n below policy .readable
@@ -78,13 +79,13 @@ module _ {sheet : Sheet} {work : List ℕ} (s : Standing Enforced sheet work) wh
 
   -- the set of the nodes reached through And alone
   abbrev set : ℕ
-  set = reachedSet (andSets (sheet .nodes)) last
+  set = andSet (sheet .nodes) last
 
   pub set-reached : (n : ℕ) → bit set n ≡ true → ReachedByAnd sheet last n
-  set-reached n e = reached-by-and sheet last (all-earlier (s .right .formed)) n .0 e
+  set-reached n e = reached-by-and sheet last (all-earlier sheet (s .right .formed)) n .0 e
 
   reached-set : (n : ℕ) → ReachedByAnd sheet last n → bit set n ≡ true
-  reached-set n r = reached-by-and sheet last (all-earlier (s .right .formed)) n .1 r
+  reached-set n r = reached-by-and sheet last (all-earlier sheet (s .right .formed)) n .1 r
 
   module _ (list : List ℕ) (q : Sequence A list) where
     front : (k : ℕ) → Sequence A (take k list)

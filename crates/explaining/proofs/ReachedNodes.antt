@@ -18,16 +18,19 @@ use Rattle.syntax.specs.Nodes.{nodeOf, propositionsOf}
 use Rattle.syntax.specs.Formed.{Formed}
 use Rattle.syntax.specs.Types.{typeAt, typingOf, boundFits, found}
 use Rattle.syntax.specs.Meaning.{Meaning, asPolicy, meaningOf, meanings, nodePolicy}
-use Rattle.reached.specs.Reached.{itself, onward, AndPart, left, right, ReachedByAnd, PartsEarlier}
-use Rattle.syntax.specs.Typed.{SoundSheet}
+use Rattle.reached.specs.Reached.{itself, onward}
+use Rattle.reached.specs.Parts.{AndPart, left, right, ReachedByAnd, Used}
+use Rattle.typing.specs.Typed.{SoundSheet}
 use Rattle.syntax.specs.declared.Node.the-variants.{And}
 use Rattle.syntax.specs.declared.NodeType.{NodeType}
-use Rattle.syntax.specs.declared.NodeType.the-variants.{Formula, Policy}
+use Rattle.syntax.specs.declared.NodeType.the-variants.{Unused, Formula, Policy}
 use Rattle.syntax.specs.declared.Sheet.{Sheet}
 use Rattle.syntax.specs.declared.TypeFound.the-variants.{Fits, TooLong}
 use Rattle.syntax.specs.declared.TypedNode.{TypedNode}
-use Rattle.syntax.proofs.Meanings.{meaning-of, meaning-stays}
-use Rattle.reached.proofs.ReachedSets.{reached-no-later, and-earlier}
+use Rattle.typing.proofs.Meanings.{meaning-of, meaning-stays}
+use Rattle.reached.proofs.ReachedSets.{reached-map, reached-no-later}
+use Rattle.reached.proofs.NodeSets.{and-earlier, and-is-part}
+use Rattle.typing.proofs.Sound.{typed-fits, typed-policy}
 use Rattle.explaining.specs.Denials.{policyNode, satisfiesNode}
 
 module _ (sheet : Sheet) where
@@ -58,10 +61,6 @@ module _ {sheet : Sheet} (formed : Formed sheet) where
   -- The policy's own node is a node of the sheet.
   pub policy-inside : policyNode sheet < sheet .count
   policy-inside = omega (arith, formed .some-node)
-
-  -- Every part stands before its node, up to the policy's own.
-  pub all-earlier : PartsEarlier (sheet .nodes) (policyNode sheet)
-  all-earlier n h = formed .parts n (omega (arith, policy-inside))
 
   module _ {from : ℕ} (inside : from < sheet .count) where
     -- A node reached from another through And alone stands at or before it.
@@ -96,6 +95,7 @@ found-typed (Typed n j) {m} {k} e = by (boundFits j) e
 found-typed Untyped e = absurd (let z : _≡_ {A = ℕ} 0 1 = cc in omega arith)
 
 typing-of : (t : NodeType) {m : Mode} {k : Bound} → typingOf t ≡ Typed m k → t ≡ Policy m k
+typing-of Unused e = absurd (let z : _≡_ {A = ℕ} 0 1 = cc in omega arith)
 typing-of Formula e = absurd (let z : _≡_ {A = ℕ} 0 1 = cc in omega arith)
 typing-of (Policy n j) e = cc
 
@@ -103,11 +103,14 @@ module _ {mode : Mode} {sheet : Sheet} {types : List TypedNode} (s : SoundSheet 
   part-modes : (n a b : ℕ) → n < sheet .count → nodeOf sheet n ≡ And a b → {k : Bound} → typeAt types n ≡ Policy mode k
       → ((i : Bound) × (typeAt types a ≡ Policy mode i)) × ((j : Bound) × (typeAt types b ≡ Policy mode j))
   part-modes n a b h e {k} t =
-      let q : found (alikeTyped (typingOf (typeAt types a)) (typingOf (typeAt types b))) ≡ Fits (Policy mode k) = rw (e, t) at (s .types-each n h) in
+      let q : found (alikeTyped (typingOf (typeAt types a)) (typingOf (typeAt types b))) ≡ Fits (Policy mode k) = rw (e, t) at (typed-fits s n h (typed-policy t)) in
       let (x, y) = alike-modes (typingOf (typeAt types a)) (typingOf (typeAt types b)) (found-typed _ q) in
       ((x .0, typing-of (typeAt types a) (x .1)), (y .0, typing-of (typeAt types b) (y .1)))
 
-  -- A node reached from the policy through And alone is a policy of the sheet's mode.
+  -- A node reached from the policy through And alone is used, and a policy of the sheet's mode.
+  pub reached-used : {m : ℕ} → ReachedByAnd sheet (policyNode sheet) m → Used sheet m
+  reached-used r = reached-map (and-is-part sheet) r
+
   pub reached-mode : {m : ℕ} → ReachedByAnd sheet (policyNode sheet) m → (bound : Bound) × (typeAt types m ≡ Policy mode bound)
   reached-mode itself = (s .bound, s .last)
   reached-mode (onward r p) = by p (reached-inside (s .formed) (policy-inside (s .formed)) r) (reached-mode r)

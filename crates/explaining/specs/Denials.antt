@@ -8,7 +8,7 @@ use lib.ListN.{length, getD, take}
 use Rattle.policy.specs.Policy.{satisfies}
 use Rattle.syntax.specs.Nodes.{propositionsOf}
 use Rattle.syntax.specs.Meaning.{nodePolicy}
-use Rattle.reached.specs.Reached.{ReachedByAnd}
+use Rattle.reached.specs.Parts.{ReachedByAnd}
 use Rattle.syntax.specs.declared.Sheet.{Sheet}
 
 -- The policy's own node.

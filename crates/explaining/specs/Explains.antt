@@ -9,7 +9,7 @@ use Rattle.trace.specs.declared.Mode.{Mode}
 use Rattle.trace.specs.declared.Mode.the-variants.{Enforced, Watched}
 use Rattle.table.specs.Answer.{accepted, modeNumber}
 use Rattle.table.specs.Answer.{refused as compiler-refused}
-use Rattle.syntax.specs.Typed.{sound}
+use Rattle.typing.specs.Typed.{sound}
 use Rattle.syntax.specs.declared.Sheet.{Sheet}
 use Rattle.syntax.specs.declared.TypedNode.{TypedNode}
 use Rattle.sheet.specs.Judge.{judge}

@@ -9,7 +9,7 @@ use Rattle.trace.specs.Trace.{Sequence, Step, trips}
 use Rattle.trace.specs.declared.Mode.{Mode}
 use Rattle.trace.specs.declared.Mode.the-variants.{Enforced, Watched}
 use Rattle.policy.specs.Formula.{bit}
-use Rattle.syntax.specs.Typed.{SoundSheet}
+use Rattle.typing.specs.Typed.{SoundSheet}
 use Rattle.syntax.specs.declared.Sheet.{Sheet}
 use Rattle.syntax.specs.declared.TypedNode.{TypedNode}
 use Rattle.rules.specs.Rules.{partAt, Readable}

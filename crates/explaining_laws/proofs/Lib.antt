@@ -10,3 +10,5 @@ pub mod Boards
 pub mod ExplainedBoard
 pub mod Meanings
 pub mod Unread
+pub mod DenialsAlong
+pub mod SpareNodes

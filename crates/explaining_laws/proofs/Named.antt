@@ -10,8 +10,9 @@ use Rattle.trace.specs.declared.Mode.the-variants.{Enforced}
 use Rattle.trace.proofs.Laws.{not-both}
 use Rattle.syntax.specs.Nodes.{nodeOf}
 use Rattle.syntax.specs.Formed.{Formed}
-use Rattle.reached.specs.Reached.{onward, left, right}
-use Rattle.syntax.specs.Typed.{SoundSheet}
+use Rattle.reached.specs.Reached.{onward}
+use Rattle.reached.specs.Parts.{left, right}
+use Rattle.typing.specs.Typed.{SoundSheet}
 use Rattle.syntax.specs.declared.Node.the-variants.{And}
 use Rattle.syntax.specs.declared.Sheet.{Sheet}
 use Rattle.syntax.specs.declared.TypedNode.{TypedNode}

@@ -17,10 +17,10 @@ use Rattle.policy.proofs.Typings.{typed-as}
 use Rattle.policy.proofs.Rules.{policy-lasting, enforced-satisfied}
 use Rattle.syntax.specs.Nodes.{propositionsOf}
 use Rattle.syntax.specs.Meaning.{sheetPolicy}
-use Rattle.syntax.specs.Typed.{SoundSheet}
+use Rattle.typing.specs.Typed.{SoundSheet}
 use Rattle.syntax.specs.declared.Sheet.{Sheet}
 use Rattle.syntax.specs.declared.TypedNode.{TypedNode}
-use Rattle.syntax.proofs.Meanings.{policy-of}
+use Rattle.typing.proofs.Meanings.{policy-of}
 use Rattle.explaining.specs.Denials.{policyNode, satisfiesNode, NotAnAction, NoneDenied, FirstDenied, LowestViolated}
 use Rattle.explaining.proofs.Walks.{sequence-at}
 

@@ -10,3 +10,4 @@ pub mod PutTexts
 pub mod JoinedTables
 pub mod ExplainedLists
 pub mod ReturnsDetermined
+pub mod SpareSheets

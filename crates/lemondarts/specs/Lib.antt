@@ -5,3 +5,4 @@ pub mod Joining
 pub mod Explaining
 pub mod Texts
 pub mod TextTables
+pub mod SpareSheets

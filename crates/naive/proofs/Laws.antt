@@ -1,14 +1,14 @@
--- Laws of lists past their end, of products, and of kept truths.
+-- Laws of lists past their end, of products, of kept truths, and of marks.
 -- Assumes nothing.
-use Prim.Native.Nat.{ℕ, _≤_, _<_, _*_, _%_}
+use Prim.Native.Nat.{ℕ, _≤_, _<_, _-_, _*_, _%_}
 use native.Mathlib.Nat.{le-of-lt, lt-of-le-of-lt, mul-le-mul-left}
 use native.Mathlib.Decide.{ℕ-discrete, decLt}
 use native.Mathlib.Omega.{arith}
-use mathlib.Core.Path.{_≡_, sym}
+use mathlib.Core.Path.{_≡_, refl, sym}
 use mathlib.Core.List.{List}
-use lib.ListN.{length, getD, set, replicate, List·getD-eq-default, getD-replicate, length-replicate}
+use lib.ListN.{length, getD, set, replicate, List·getD-eq-default, getD-replicate, length-replicate, length-set}
 use lib.Seq.{getD-set-same, getD-set-other, set-out}
-use Rattle.naive.specs.Truths.{Truths}
+use Rattle.naive.specs.Truths.{Truths, MoreMarked, Marks}
 
 -- past the end stands 0
 pub past : (xs : List ℕ) (i : ℕ) → length xs ≤ i → 0 ≡ getD xs i 0
@@ -44,3 +44,39 @@ zero-at n i =
 -- zeros are truths
 pub truths-zeros : (n : ℕ) → Truths (replicate n 0)
 truths-zeros n = record { truth = zero-at n }
+
+-- as many marks as before
+pub none-more : {xs : List ℕ} → Truths xs → MoreMarked xs xs
+none-more t = record { truths = t; kept = λ i. omega arith }
+
+-- more marks, and then more
+pub more-marked : {xs ys zs : List ℕ} → MoreMarked xs ys → MoreMarked ys zs → MoreMarked xs zs
+more-marked m n = record { truths = n .truths; kept = λ i. omega (arith, m .kept i, n .kept i) }
+
+one-kept : (xs : List ℕ) (i j : ℕ) → getD xs j 0 ≤ 1 → getD xs j 0 ≤ getD (set xs i 1) j 0
+one-kept xs i j hj =
+    elim (ℕ-discrete j i) [
+      | no q ↦ rw (getD-set-other xs i j 1 0 q) (omega arith)
+      | yes e ↦
+          elim (decLt i (length xs)) [
+            | yes h ↦ rw (e, getD-set-same xs i 1 0 h) (rw e at hj)
+            | no h ↦ rw (set-out xs i 1 (omega (arith, h))) (omega arith)
+          ]
+    ]
+
+-- one mark more
+pub one-more : {xs ys : List ℕ} (i : ℕ) → Truths xs → ys ≡ set xs i 1 → MoreMarked xs ys
+one-more {xs} i t e = rw e (record { truths = truths-stored i 1 t (omega arith) refl; kept = λ j. one-kept xs i j (t .truth j) })
+
+-- the last node is marked
+pub last-marked : {xs ys : List ℕ} {i nodes : ℕ} → Truths xs → i ≡ nodes - 1 → ys ≡ set xs i 1 → Marks nodes ys
+last-marked {xs} {nodes = nodes} t q e =
+    rw (e, q) (record { truths = truths-stored (nodes - 1) 1 t (omega arith) refl; last = λ h. getD-set-same xs (nodes - 1) 1 0 (rw length-set at h) })
+
+-- it stays so
+pub last-stays : {xs ys : List ℕ} {nodes : ℕ} → Marks nodes xs → MoreMarked xs ys → length ys ≡ length xs → Marks nodes ys
+last-stays {nodes = nodes} m n e =
+    record {
+      truths = n .truths;
+      last = λ h. omega (arith, m .last (omega arith), n .kept (nodes - 1), n .truths .truth (nodes - 1));
+    }

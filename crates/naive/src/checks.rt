@@ -1,15 +1,19 @@
 // Checks 1 to 7 of a sheet, in their order.
 use crate::Areas;
-use crate::Fields;
 use crate::Finding;
-use crate::bytes::at;
 use crate::bytes::number_at;
+use crate::nodes::is_marked;
+use crate::nodes::last_node;
+use crate::nodes::mark_used;
+use crate::nodes::node_at;
+use crate::nodes::room_for_marks;
+use crate::types::check_fields;
 use crate::types::mode_at;
 use crate::types::type_of;
 ghost use mathlib.Core.Path.{_≡_};
 ghost use Prim.Native.Nat.{_<_, _≤_};
 ghost use lib.ListN.{length};
-ghost use Rattle.naive.specs.Nodes.{Located, nodePlace, FieldsAt, Finds};
+ghost use Rattle.naive.specs.Nodes.{Located, Finds};
 
 // Whether the areas lie behind the header, inside the total and apart.
 fn apart(laid: Areas, actions_end: usize, nodes_end: usize, total: usize) -> bool {
@@ -68,30 +72,68 @@ pub fn find_areas(bytes: &[u8]) -> Areas
     misplaced(3)
 }
 
-// The fields of node n of a node list.
-pub fn node_at(bytes: &[u8], nodes_at: usize, n: usize) -> Fields
-    ensures { λ r. ⌜ FieldsAt (now (bytes .entry)) (nodePlace «nodes_at» n) (r .kind) (r .argument) (r .a) (r .b) (r .c) ⌝ }
+// A refusal and its spot, or 0 and 0 for none.
+fn refused(number: usize, spot: usize) -> Finding
+    ensures { λ r. ⌜ (r .number ≡ number) × (r .spot ≡ spot) × (r .mode ≡ 0) ⌝ }
 {
-    let from = nodes_at % 65536 + 5 * (n % 65536);
-    Fields {
-        kind: at(bytes, from),
-        argument: at(bytes, from + 1),
-        a: at(bytes, from + 2),
-        b: at(bytes, from + 3),
-        c: at(bytes, from + 4),
+    Finding {
+        number,
+        spot,
+        mode: 0,
     }
 }
 
-// Types node n and keeps its type in a list: 0, or the refusal 4 to 7.
-fn check_node(bytes: &[u8], nodes_at: usize, n: usize, types: &mut [usize]) -> usize
+// Checks 4 and 5, node by node: the first refusal, or 0.
+fn check_all_fields(bytes: &[u8], nodes: usize, nodes_at: usize) -> Finding
+    requires { ⌜ nodes ≤ 64 ⌝ }
+    ensures { λ r. ⌜ (r .number < 6) × (r .spot < 64) × (r .mode ≡ 0) ⌝ }
+{
+    let mut n = 0;
+    while n < nodes {
+        let number = check_fields(node_at(bytes, nodes_at, n), n);
+        if 0 < number {
+            return refused(number, n);
+        }
+        n += 1;
+    }
+    refused(0, 0)
+}
+
+// Types node n, where it is used, and keeps its type in a list: 0, or the refusal 6 or 7.
+fn check_type(bytes: &[u8], nodes_at: usize, n: usize, used: &[u8], types: &mut [usize]) -> usize
     ensures { λ r. ⌜ r < 8 ⌝ }
 {
-    let found = type_of(node_at(bytes, nodes_at, n), n, types);
+    if !is_marked(used, n) {
+        return 0;
+    }
+    let found = type_of(node_at(bytes, nodes_at, n), types);
     if types.len() <= n {
         return found.number;
     }
     types[n] = found.code;
     found.number
+}
+
+// Checks 6 and 7, node by node, of the used nodes: the first refusal, or 0.
+fn check_types(
+    bytes: &[u8],
+    nodes: usize,
+    nodes_at: usize,
+    used: &[u8],
+    types: &mut [usize],
+) -> Finding
+    requires { ⌜ nodes ≤ 64 ⌝ }
+    ensures { λ r. ⌜ (r .number < 8) × (r .spot < 64) × (r .mode ≡ 0) ⌝ }
+{
+    let mut n = 0;
+    while n < nodes {
+        let number = check_type(bytes, nodes_at, n, used, types);
+        if 0 < number {
+            return refused(number, n);
+        }
+        n += 1;
+    }
+    refused(0, 0)
 }
 
 // That the last node, n, is a policy, or refusal 6.
@@ -100,11 +142,7 @@ fn check_last(n: usize, mode: usize) -> Finding
     ensures { λ r. ⌜ Finds (r .number) (r .spot) (r .mode) ⌝ }
 {
     if mode == 0 {
-        return Finding {
-            number: 6,
-            spot: n,
-            mode: 0,
-        };
+        return refused(6, n);
     }
     Finding {
         number: 0,
@@ -113,27 +151,23 @@ fn check_last(n: usize, mode: usize) -> Finding
     }
 }
 
-// Checks 4 to 7, node by node, and then that the last node is a policy.
+// Checks 4 and 5 of all nodes, then 6 and 7 of those that are used, and then that the last node is a policy.
 fn check_nodes(bytes: &[u8], nodes: usize, nodes_at: usize, types: &mut [usize]) -> Finding
     requires { ⌜ nodes ≤ 64 ⌝ }
     ensures { λ r. ⌜ Finds (r .number) (r .spot) (r .mode) ⌝ }
 {
-    let mut n = 0;
-    while n < nodes {
-        let number = check_node(bytes, nodes_at, n, types);
-        if 0 < number {
-            return Finding {
-                number,
-                spot: n,
-                mode: 0,
-            };
-        }
-        n += 1;
+    let malformed = check_all_fields(bytes, nodes, nodes_at);
+    if 0 < malformed.number {
+        return malformed;
     }
-    if n == 0 {
-        return check_last(0, 0);
+    let mut used = room_for_marks();
+    mark_used(bytes, nodes, nodes_at, &mut used);
+    let mistyped = check_types(bytes, nodes, nodes_at, &used, types);
+    if 0 < mistyped.number {
+        return mistyped;
     }
-    check_last(n - 1, mode_at(types, n - 1))
+    let last = last_node(nodes);
+    check_last(last, mode_at(types, last))
 }
 
 fn room_for_types() -> [usize; 64]
@@ -148,11 +182,7 @@ pub fn judge(bytes: &[u8]) -> Finding
 {
     let found = find_areas(bytes);
     if 0 < found.number {
-        return Finding {
-            number: found.number,
-            spot: 0,
-            mode: 0,
-        };
+        return refused(found.number, 0);
     }
     let mut types = room_for_types();
     check_nodes(bytes, found.nodes, found.nodes_at, &mut types)

@@ -1,8 +1,9 @@
-// A second reading of rule sheets and tables, straight from the meanings of docs/FORMATS.md: checks 1 to 7, each node on every short sequence, and a
-// table's verdict beside the policy's. It has no rules, no remembered values and no refinement, and shares no code with the compiler.
+// A second reading of rule sheets and tables, straight from the meanings of docs/FORMATS.md: checks 1 to 7, each used node on every short sequence,
+// and a table's verdict beside the policy's. It has no rules, no remembered values and no refinement, and shares no code with the compiler.
 mod bytes;
 mod checks;
 mod meanings;
+mod nodes;
 mod sequences;
 mod types;
 mod verdicts;
@@ -11,7 +12,7 @@ pub use bytes::at;
 pub use bytes::put;
 pub use checks::find_areas;
 pub use checks::judge;
-pub use checks::node_at;
+pub use nodes::node_at;
 pub use verdicts::compare;
 
 // Where a sheet's areas are. The number is 0, or the refusal 1, 2 or 3, with all else 0.
@@ -33,7 +34,7 @@ pub struct Fields {
 }
 
 // A node's type in one number: 4 * bound + mode, where the mode is 0 for a formula, 1 enforced, 2 watched, and the bound may be UNBOUNDED. The
-// number is 0, or the refusal 4 to 7.
+// number is 0, or the refusal 6 or 7.
 pub struct Type {
     pub number: usize,
     pub code: usize,

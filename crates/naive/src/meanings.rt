@@ -1,12 +1,15 @@
 // The meanings of docs/FORMATS.md, "Policies", on sequences. Truths are kept in a lent area of 64 times 2,048 bytes: at 2,048 * n + s stands 1 where node n is
 // satisfied by the sequence numbered s, or, for an action formula, by the action s, and else 0. A node's truths are found from those of its
-// parts, which have lower numbers, and on sequences that are no longer.
+// parts, which have lower numbers, and on sequences that are no longer. Only used nodes get theirs; their parts are used too.
 use crate::Areas;
 use crate::Fields;
 use crate::bytes::at;
 use crate::bytes::number_at;
 use crate::bytes::put;
-use crate::checks::node_at;
+use crate::nodes::is_marked;
+use crate::nodes::mark_used;
+use crate::nodes::node_at;
+use crate::nodes::room_for_marks;
 use crate::sequences::judged;
 use crate::sequences::number_of;
 use crate::sequences::spell;
@@ -226,11 +229,14 @@ pub fn room_for_letters() -> [u8; 130]
     [0u8; 130]
 }
 
-// The truths of node n.
-fn evaluate_node(bytes: &[u8], laid: Areas, n: usize, truths: &mut [u8])
+// The truths of node n, if it is used.
+fn evaluate_node(bytes: &[u8], laid: Areas, n: usize, used: &[u8], truths: &mut [u8])
     requires { ⌜ Truths (now truths) ⌝ }
     ensures { λ _. ⌜ Truths (now (truths .exit)) ⌝ }
 {
+    if !is_marked(used, n) {
+        return;
+    }
     let mut letters = room_for_letters();
     let node = node_at(bytes, laid.nodes_at, n);
     let count = judged_on(node.kind, laid.actions);
@@ -242,15 +248,17 @@ fn evaluate_node(bytes: &[u8], laid: Areas, n: usize, truths: &mut [u8])
     }
 }
 
-// The truths of every node of a sound sheet, in their order.
+// The truths of every used node of a sound sheet, in their order.
 pub fn evaluate(bytes: &[u8], laid: Areas, truths: &mut [u8])
     requires { ⌜ Truths (now truths) ⌝ }
     ensures { λ _. ⌜ Truths (now (truths .exit)) ⌝ }
 {
     let nodes = laid.nodes;
+    let mut used = room_for_marks();
+    mark_used(bytes, nodes, laid.nodes_at, &mut used);
     let mut n = 0;
     while n < nodes {
-        evaluate_node(bytes, laid, n, truths);
+        evaluate_node(bytes, laid, n, &used, truths);
         n += 1;
     }
 }

@@ -2,22 +2,10 @@
 use crate::Fields;
 use crate::Type;
 use crate::UNBOUNDED;
+use crate::nodes::parts_of;
 ghost use mathlib.Core.Path.{_≡_};
 ghost use Prim.Native.Nat.{_%_, _<_, _≤_};
 ghost use lib.ListN.{getD};
-
-// How many parts a kind has; 4 for an unknown kind.
-fn parts_of(kind: usize) -> usize
-    ensures { λ r. ⌜ r < 5 ⌝ }
-{
-    match kind {
-        1 | 2 | 3 | 12 => 0,
-        4 | 10 | 11 | 13 | 16 | 17 => 1,
-        5 | 6 | 14 | 15 | 18 | 19 | 20 | 21 | 23 => 2,
-        22 => 3,
-        _ => 4,
-    }
-}
 
 // Whether an argument is in the range of its kind.
 fn argument_fits(kind: usize, argument: usize) -> bool {
@@ -33,8 +21,8 @@ fn part_fits(used: bool, part: usize, n: usize) -> bool {
     if used { part < n } else { part == 0 }
 }
 
-// Check 4 and check 5: 0, 4 or 5.
-fn check_fields(node: Fields, n: usize) -> usize
+// Checks 4 and 5 of node n: 0, or the refusal.
+pub fn check_fields(node: Fields, n: usize) -> usize
     ensures { λ r. ⌜ r < 6 ⌝ }
 {
     let parts = parts_of(node.kind);
@@ -145,18 +133,11 @@ fn bound_of(kind: usize, argument: usize, a: usize, b: usize, c: usize) -> usize
     }
 }
 
-// The type of node n, from the types of the nodes before it, or the first refusal of 4 to 7.
-pub fn type_of(node: Fields, n: usize, types: &[usize]) -> Type
+// The type of a node that passes checks 4 and 5, from the types of its parts, or the refusal 6 or 7.
+pub fn type_of(node: Fields, types: &[usize]) -> Type
     requires { ⌜ node .argument < 256 ⌝ }
     ensures { λ r. ⌜ (r .number < 8) × (r .code < 4000004) × (0 < r .number → r .code ≡ 0) ⌝ }
 {
-    let wrong = check_fields(node, n);
-    if 0 < wrong {
-        return Type {
-            number: wrong,
-            code: 0,
-        };
-    }
     let a = mode_at(types, node.a);
     let b = mode_at(types, node.b);
     if !modes_fit(node.kind, a, b, mode_at(types, node.c)) {

@@ -5,11 +5,12 @@ use crate::bytes::at;
 use crate::checks::find_areas;
 use crate::meanings::evaluate;
 use crate::meanings::room_for_letters;
+use crate::nodes::last_node;
 use crate::sequences::judged;
 use crate::sequences::spell;
 use crate::sequences::times;
 ghost use mathlib.Core.Path.{_≡_};
-ghost use Prim.Native.Nat.{_-_, _≤_, _<_};
+ghost use Prim.Native.Nat.{_≤_, _<_};
 ghost use lib.ListN.{length};
 ghost use Rattle.naive.specs.Truths.{Truths};
 
@@ -38,13 +39,6 @@ fn table_trips(table: &[u8], actions: usize, sequence: &[u8]) -> bool {
 fn policy_trips(truths: &[u8], n: usize, mode: usize, s: usize) -> bool {
     let satisfied = at(truths, 2048 * (n % 64) + s % 2048) == 1;
     satisfied == (mode == 2)
-}
-
-// The number of the last of so many nodes.
-fn last_node(nodes: usize) -> usize
-    ensures { λ r. ⌜ r ≡ nodes - 1 ⌝ }
-{
-    if nodes == 0 { 0 } else { nodes - 1 }
 }
 
 // 1 where the two differ after the sequence s, which is spelled out in `letters`, and else 0.

@@ -13,21 +13,21 @@ use Rattle.policy.specs.Typing.{typeOf}
 use Rattle.syntax.specs.Nodes.{propositionsOf}
 use Rattle.syntax.specs.Types.{typeAt}
 use Rattle.syntax.specs.Meaning.{nodePolicy}
-use Rattle.syntax.specs.Typed.{SoundSheet}
+use Rattle.typing.specs.Typed.{SoundSheet}
 use Rattle.syntax.specs.declared.NodeType.{NodeType}
-use Rattle.syntax.specs.declared.NodeType.the-variants.{Formula, Policy}
+use Rattle.syntax.specs.declared.NodeType.the-variants.{Unused, Formula, Policy}
 use Rattle.syntax.specs.declared.Sheet.{Sheet}
 use Rattle.syntax.specs.declared.TypedNode.{TypedNode}
-use Rattle.syntax.proofs.Meanings.{policy-of}
+use Rattle.typing.proofs.Meanings.{policy-of}
 use Rattle.syntax.proofs.NodeTypes.{PolicyBefore}
 use Rattle.rules.specs.Codes.{CountFits}
 use Rattle.rules.specs.Rules.{ruleOver, ruleAt, EarlierRule}
-use Rattle.rules.specs.declared.Lowered.the-variants.{AsRule, AsFormula}
+use Rattle.rules.specs.declared.Lowered.the-variants.{AsRule}
 use Rattle.rules.specs.declared.NodeRule.{NodeRule}
 use Rattle.rules.specs.declared.RuleAt.{RuleAt}
 use Rattle.node_rules.specs.Nodes.{nodeRule}
 use Rattle.node_rules.specs.Lowering.{SameRule, opens, filters, equal, rulesOf}
-use Rattle.node_rules.proofs.NodeRules.{formula-right, policy-right}
+use Rattle.node_rules.proofs.NodeRules.{rule-typed, policy-right}
 
 -- A policy node has its type, is the policy of its rule over earlier policy nodes, and a count from 1 to 60.
 pub record NodeFacts (sheet : Sheet) (types : List TypedNode) (n : ℕ) (mode : Mode) (bound : Bound) : Type 0 where
@@ -36,7 +36,7 @@ pub record NodeFacts (sheet : Sheet) (types : List TypedNode) (n : ℕ) (mode : 
   pub parts : AllParts (PolicyBefore (typeAt types) n) (nodeRule sheet n)
   pub count : CountFits (nodeRule sheet n)
 
--- A node that is a rule is a policy, and the rule says the same as the node's own, over earlier rules.
+-- A node that is a rule is a policy, and used, and the rule says the same as the node's own, over earlier rules.
 pub record RuleFacts (sheet : Sheet) (types : List TypedNode) (n : ℕ) (code : NodeRule) : Type 0 where
   pub mode : Mode
   pub bound : Bound
@@ -71,12 +71,9 @@ module _ {mode : Mode} (sheet : Sheet) (types : List TypedNode) (sound : SoundSh
           count = same-count (r .same) (r .count);
         }
 
-    -- a policy has a rule, a formula none, and what has none is a formula
+    -- a policy has a rule
     pub policy-rule : {m : Mode} {k : Bound} → typeAt types n ≡ Policy m k → (code : NodeRule) × (ruleAt (rulesOf sheet types) n ≡ AsRule code)
     policy-rule e = let r = policy-right sheet (λ i. Unit {0}) types sound n below (λ i p. tt) e in (r .code, r .is)
-
-    pub formula-rule : typeAt types n ≡ Formula → ruleAt (rulesOf sheet types) n ≡ AsFormula
-    formula-rule e = formula-right sheet (λ i. Unit {0}) types sound n below (λ i p. tt) e
 
   pub rule-facts : (n : ℕ) → n < sheet .count → (code : NodeRule) → ruleAt (rulesOf sheet types) n ≡ AsRule code → RuleFacts sheet types n code
   rule-facts n below code e = by (typeAt types n) refl
@@ -85,7 +82,8 @@ module _ {mode : Mode} (sheet : Sheet) (types : List TypedNode) (sound : SoundSh
       earlier i p = let r = policy-rule i (omega (arith, p .before)) (p .is) in record { before = p .before; rule = r .0; is = r .1 }
 
       by : (t : NodeType) → typeAt types n ≡ t → RuleFacts sheet types n code
-      by Formula p = let r = formula-rule n below p in absurd (let z : _≡_ {A = ℕ} 0 1 = cc in omega arith)
+      by Unused p = let r = rule-typed sheet types (sound .formed .few-nodes) n below p in absurd (let z : _≡_ {A = ℕ} 0 1 = cc in omega arith)
+      by Formula p = let r = rule-typed sheet types (sound .formed .few-nodes) n below p in absurd (let z : _≡_ {A = ℕ} 0 1 = cc in omega arith)
       by (Policy m k) p =
           let r = policy-right sheet (EarlierRule rules n) types sound n below earlier p in
           let alike : r .code ≡ code = cc in

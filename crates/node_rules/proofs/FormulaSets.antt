@@ -15,17 +15,18 @@ use Rattle.policy.proofs.Sets.{bit-empty, bit-or}
 use Rattle.syntax.specs.Nodes.{nodeOf, propositionsOf}
 use Rattle.syntax.specs.Types.{typeAt}
 use Rattle.syntax.specs.Meaning.{Meaning, formula, policy, asFormula, formulaAt, meaningOf, meanings}
-use Rattle.syntax.specs.Typed.{SoundSheet, Agrees}
+use Rattle.typing.specs.Typed.{SoundSheet, Agrees}
 use Rattle.syntax.specs.declared.Node.{Node}
 use Rattle.syntax.specs.declared.Node.the-variants.{True, False, Proposition, Negation, Conjunction, Disjunction, Now, Holds, Count, Not, And, Or, Eventually, Always, BeforeMinus, BeforePlus, AfterMinus, AfterPlus, Fulfilling, Ignoring}
 use Rattle.syntax.specs.declared.NodeType.{NodeType}
 use Rattle.syntax.specs.declared.NodeType.the-variants.{Formula}
 use Rattle.syntax.specs.declared.Sheet.{Sheet}
 use Rattle.syntax.specs.declared.TypedNode.{TypedNode}
-use Rattle.syntax.proofs.Meanings.{nodeMeaning, meaning-of, meaning-stays, node-parts, agrees}
+use Rattle.typing.proofs.Meanings.{nodeMeaning, meaning-of, meaning-stays, node-parts, agrees}
+use Rattle.typing.proofs.Sound.{typed-formula}
 use Rattle.syntax.proofs.NodeTypes.{EachPart, FormulaBefore, PolicyBefore}
 use Rattle.node_rules.specs.Nodes.{nodeFormula}
-use Rattle.node_rules.specs.Lowering.{propositionSet, complement, setOf, setAt, firstSets, setsOf}
+use Rattle.node_rules.specs.Lowering.{propositionSet, complement, setOf, setAt, ofFormula, firstSets, setsOf}
 use Rattle.node_rules.proofs.PropositionSets.{proposition-width, bit-and, bit-complement, bit-proposition}
 
 -- a set of 16 bits with the actions that satisfy a formula
@@ -102,10 +103,11 @@ module _ (sheet : Sheet) (few : sheet .actions ≤ 16) where
 module _ {mode : Mode} (sheet : Sheet) (types : List TypedNode) (sound : SoundSheet mode sheet types) where
   -- the set that node n gets, from those before it
   abbrev own : ℕ → ℕ
-  own n = setOf sheet (setAt (firstSets sheet n)) (nodeOf sheet n)
+  own n = setOf sheet (setAt (firstSets sheet types n)) (nodeOf sheet n)
 
-  set-stays : (j n : ℕ) → n < j → j ≤ 64 → setAt (firstSets sheet j) n ≡ own n
-  set-stays j n h g = filled-at 64 0 (λ i sets. setOf sheet (setAt sets) (nodeOf sheet i)) j n h g
+  set-stays : (j n : ℕ) → n < j → j ≤ 64 → typeAt types n ≡ Formula → setAt (firstSets sheet types j) n ≡ own n
+  set-stays j n h g e =
+      filled-at 64 0 (λ i sets. ofFormula (typeAt types i) (setOf sheet (setAt sets) (nodeOf sheet i))) j n h g ∙ ap (λ (t : NodeType). ofFormula t (own n)) e
 
   right-below : (m n : ℕ) → n < m → n < sheet .count → typeAt types n ≡ Formula → RightSet sheet (nodeFormula sheet n) (own n)
   right-below zero n h g e = absurd (omega arith)
@@ -113,12 +115,12 @@ module _ {mode : Mode} (sheet : Sheet) (types : List TypedNode) (sound : SoundSh
     where
       go : ((i : ℕ) → i < n → typeAt types i ≡ Formula → RightSet sheet (nodeFormula sheet i) (own i)) → RightSet sheet (nodeFormula sheet n) (own n)
       go ih =
-          set-for (nodeMeaning sheet n) (rw e at (agrees sheet types sound n g))
+          set-for (nodeMeaning sheet n) (rw e at (agrees sheet types sound n g (typed-formula e)))
           (subst (λ (x : Meaning). SetFor sheet x (own n)) (sym (meaning-of sheet n))
-          (right-node sheet (sound .formed .few-actions) n (meanings (sheet .nodes) n) (setAt (firstSets sheet n)) (typeAt types) part (nodeOf sheet n) (node-parts sheet types sound n g)))
+          (right-node sheet (sound .formed .few-actions) n (meanings (sheet .nodes) n) (setAt (firstSets sheet types n)) (typeAt types) part (nodeOf sheet n) (node-parts sheet types sound n g (typed-formula e))))
         where
-          part : (i : ℕ) → FormulaBefore (typeAt types) n i → RightSet sheet (formulaAt (meanings (sheet .nodes) n) i) (setAt (firstSets sheet n) i)
-          part i p = rw (meaning-stays sheet n i (p .before), set-stays n i (p .before) (omega (arith, sound .formed .few-nodes))) (ih i (p .before) (p .is))
+          part : (i : ℕ) → FormulaBefore (typeAt types) n i → RightSet sheet (formulaAt (meanings (sheet .nodes) n) i) (setAt (firstSets sheet types n) i)
+          part i p = rw (meaning-stays sheet n i (p .before), set-stays n i (p .before) (omega (arith, sound .formed .few-nodes)) (p .is)) (ih i (p .before) (p .is))
 
-  pub right-set : (n : ℕ) → n < sheet .count → typeAt types n ≡ Formula → RightSet sheet (nodeFormula sheet n) (setAt (setsOf sheet) n)
-  right-set n h e = rw (set-stays (sheet .count) n h (sound .formed .few-nodes)) (right-below (suc n) n (lt-suc-self n) h e)
+  pub right-set : (n : ℕ) → n < sheet .count → typeAt types n ≡ Formula → RightSet sheet (nodeFormula sheet n) (setAt (setsOf sheet types) n)
+  right-set n h e = rw (set-stays (sheet .count) n h (sound .formed .few-nodes) e) (right-below (suc n) n (lt-suc-self n) h e)

@@ -1,8 +1,8 @@
--- What the nodes of a sound sheet are lowered to: a formula to no rule, a policy to its own rule, which is the policy's over its parts.
+-- What the used policy nodes of a sound sheet are lowered to: each to its own rule, which is the policy's over its parts.
 -- Assumes nothing.
-use mathlib.Core.Path.{_≡_, refl, sym, ap}
+use mathlib.Core.Path.{_≡_, refl, sym, ap, _∙_}
 use mathlib.Core.List.{List}
-use Prim.Native.Nat.{ℕ, _<_}
+use Prim.Native.Nat.{ℕ, _≤_, _<_}
 use native.Mathlib.Omega.{arith}
 use lib.ListN.{getD}
 use Rattle.base.proofs.Filled.{filled-at}
@@ -19,24 +19,36 @@ use Rattle.syntax.specs.Nodes.{nodeOf, propositionsOf}
 use Rattle.syntax.specs.Formed.{ArgumentFits}
 use Rattle.syntax.specs.Types.{typeAt}
 use Rattle.syntax.specs.Meaning.{Meaning, formula, policy, asPolicy, meaningOf, meanings, nodePolicy}
-use Rattle.syntax.specs.Typed.{SoundSheet, Agrees}
+use Rattle.typing.specs.Typed.{SoundSheet, Agrees}
 use Rattle.syntax.specs.declared.Node.{Node}
 use Rattle.syntax.specs.declared.Node.the-variants.{True, False, Proposition, Negation, Conjunction, Disjunction, Now, Holds, Count, Not, And, Or, Eventually, Always, BeforeMinus, BeforePlus, AfterMinus, AfterPlus, Fulfilling, Ignoring}
-use Rattle.syntax.specs.declared.NodeType.the-variants.{Formula, Policy}
+use Rattle.syntax.specs.declared.NodeType.{NodeType}
+use Rattle.syntax.specs.declared.NodeType.the-variants.{Policy}
 use Rattle.syntax.specs.declared.Sheet.{Sheet}
 use Rattle.syntax.specs.declared.TypedNode.{TypedNode}
-use Rattle.syntax.proofs.Meanings.{nodeMeaning, meaning-of, meaning-stays, node-parts, agrees, policy-of}
+use Rattle.typing.proofs.Meanings.{nodeMeaning, meaning-of, meaning-stays, node-parts, agrees, policy-of}
+use Rattle.typing.proofs.Sound.{typed-policy}
 use Rattle.syntax.proofs.NodeTypes.{EachPart, FormulaBefore, PolicyBefore}
 use Rattle.rules.specs.Codes.{CountFits}
 use Rattle.rules.specs.Rules.{ruleOver, ruleAt}
 use Rattle.rules.specs.declared.Lowered.{Lowered}
-use Rattle.rules.specs.declared.Lowered.the-variants.{AsRule, AsFormula}
+use Rattle.rules.specs.declared.Lowered.the-variants.{AsRule, NoRule}
 use Rattle.rules.specs.declared.NodeRule.{NodeRule}
 use Rattle.rules.specs.declared.NodeRule.the-variants.{Opening, Counting, Same, Both, Either, Copied, Until, Then, Timed, Filtered}
 use Rattle.rules.specs.declared.RuleAt.{RuleAt}
 use Rattle.node_rules.specs.Nodes.{nodeFormula, ruleBy, nodeRule}
-use Rattle.node_rules.specs.Lowering.{SameRule, opens, filters, equal, complement, setAt, setsOf, byMode, lowered, rulesOf}
+use Rattle.node_rules.specs.Lowering.{SameRule, opens, filters, equal, complement, setAt, setsOf, byMode, lowered, ofPolicy, rulesOf}
 use Rattle.node_rules.proofs.FormulaSets.{RightSet, right-negation, right-set}
+
+-- what node n is lowered to goes by its type
+module _ (sheet : Sheet) (types : List TypedNode) (few : sheet .count ≤ 64) (n : ℕ) (below : n < sheet .count) where
+  pub rule-typed : {t : NodeType} → typeAt types n ≡ t
+      → ruleAt (rulesOf sheet types) n ≡ ofPolicy t (lowered (typeAt types) (setAt (setsOf sheet types)) (nodeOf sheet n))
+  rule-typed e =
+      ap (λ (r : RuleAt). r .of)
+      (filled-at 64 (record { of = NoRule })
+      (λ i rules. record { of = ofPolicy (typeAt types i) (lowered (typeAt types) (setAt (setsOf sheet types)) (nodeOf sheet i)) }) (sheet .count) n below few)
+      ∙ ap (λ (t : NodeType). ofPolicy t (lowered (typeAt types) (setAt (setsOf sheet types)) (nodeOf sheet n))) e
 
 module _ (sheet : Sheet) (Q : ℕ → Type 0) where
   -- A rule over node numbers is that of a policy over its parts, and the code has one that says the same. Q holds of its parts, and its count
@@ -51,12 +63,8 @@ module _ (sheet : Sheet) (Q : ℕ → Type 0) where
 
   -- what a node of this meaning is lowered to
   abbrev LoweredFor : Meaning → Rule ℕ → Lowered → Type 0
-  LoweredFor (formula f) rule to = to ≡ AsFormula
+  LoweredFor (formula f) rule to = to ≡ NoRule
   LoweredFor (policy p) rule to = RightRule rule (ruleOf (propositionsOf sheet) p) to
-
-  formula-for : (x : Meaning) (rule : Rule ℕ) (to : Lowered) → Agrees Formula x → LoweredFor x rule to → to ≡ AsFormula
-  formula-for (formula f) rule to a r = r
-  formula-for (policy p) rule to a r = absurd a
 
   policy-for : (x : Meaning) (rule : Rule ℕ) (to : Lowered) (m : Mode) (k : Bound) → Agrees (Policy m k) x → LoweredFor x rule to
       → RightRule rule (ruleOf (propositionsOf sheet) (asPolicy x)) to
@@ -87,7 +95,7 @@ module _ (sheet : Sheet) (Q : ℕ → Type 0) where
     before = meanings (sheet .nodes) n
 
     abbrev set : ℕ → ℕ
-    set i = setAt (setsOf sheet) i
+    set i = setAt (setsOf sheet types) i
 
     means : (i : ℕ) → i < n → getD before i (formula always-false) ≡ nodeMeaning sheet i
     means i h = meaning-stays sheet n i h
@@ -131,18 +139,11 @@ module _ (sheet : Sheet) (Q : ℕ → Type 0) where
         rw (means a (h .0 .before), means b (h .1 .before))
         (record { code = Filtered (set a) b; is = refl; over = refl; same = filters _ _ (λ x l. sym (right a (h .0) .each x l)) b; parts = part b (h .1); count = tt })
 
-    rule-is : ruleAt (rulesOf sheet types) n ≡ lowered (typeAt types) set (nodeOf sheet n)
-    rule-is =
-        ap (λ (r : RuleAt). r .of)
-        (filled-at 64 (record { of = AsFormula }) (λ i rules. record { of = lowered (typeAt types) set (nodeOf sheet i) }) (sheet .count) n below (sound .formed .few-nodes))
-
-    node-right : LoweredFor (nodeMeaning sheet n) (nodeRule sheet n) (ruleAt (rulesOf sheet types) n)
-    node-right =
-        rw (meaning-of sheet n, rule-is) (lowered-right (nodeOf sheet n) (node-parts sheet types sound n below) (sound .formed .arguments n below))
-
-    pub formula-right : typeAt types n ≡ Formula → ruleAt (rulesOf sheet types) n ≡ AsFormula
-    formula-right e = formula-for (nodeMeaning sheet n) (nodeRule sheet n) (ruleAt (rulesOf sheet types) n) (rw e at (agrees sheet types sound n below)) node-right
+    node-right : {m : Mode} {k : Bound} → typeAt types n ≡ Policy m k → LoweredFor (nodeMeaning sheet n) (nodeRule sheet n) (ruleAt (rulesOf sheet types) n)
+    node-right e =
+        rw (meaning-of sheet n, rule-typed sheet types (sound .formed .few-nodes) n below e)
+        (lowered-right (nodeOf sheet n) (node-parts sheet types sound n below (typed-policy e)) (sound .formed .arguments n below))
 
     pub policy-right : {m : Mode} {k : Bound} → typeAt types n ≡ Policy m k
         → RightRule (nodeRule sheet n) (ruleOf (propositionsOf sheet) (nodePolicy sheet n)) (ruleAt (rulesOf sheet types) n)
-    policy-right {m} {k} e = policy-for (nodeMeaning sheet n) (nodeRule sheet n) (ruleAt (rulesOf sheet types) n) m k (rw e at (agrees sheet types sound n below)) node-right
+    policy-right {m} {k} e = policy-for (nodeMeaning sheet n) (nodeRule sheet n) (ruleAt (rulesOf sheet types) n) m k (rw e at (agrees sheet types sound n below (typed-policy e))) (node-right e)

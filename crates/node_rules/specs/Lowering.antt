@@ -1,4 +1,4 @@
--- Lowering a sheet's nodes: a formula node to the set of actions that satisfy it, a policy node to its rule.
+-- Lowering a sheet's used nodes: a formula node to the set of actions that satisfy it, a policy node to its rule. Unused nodes have neither.
 -- Assumes nothing.
 use mathlib.Core.Path.{_≡_}
 use mathlib.Core.Bool.{Bool, true, false, cond}
@@ -16,13 +16,13 @@ use Rattle.syntax.specs.declared.ListedNode.{ListedNode}
 use Rattle.syntax.specs.declared.Node.{Node}
 use Rattle.syntax.specs.declared.Node.the-variants.{True, False, Proposition, Negation, Conjunction, Disjunction, Now, Holds, Count, Not, And, Or, Eventually, Always, BeforeMinus, BeforePlus, AfterMinus, AfterPlus, Fulfilling, Ignoring}
 use Rattle.syntax.specs.declared.NodeType.{NodeType}
-use Rattle.syntax.specs.declared.NodeType.the-variants.{Formula, Policy}
+use Rattle.syntax.specs.declared.NodeType.the-variants.{Unused, Formula, Policy}
 use Rattle.syntax.specs.declared.Sheet.{Sheet}
 use Rattle.syntax.specs.declared.TypedNode.{TypedNode}
 use Rattle.rules.specs.declared.NodeRule.{NodeRule}
 use Rattle.rules.specs.declared.NodeRule.the-variants.{Opening, Counting, Same, Both, Either, Copied, Until, Then, Timed, Filtered}
 use Rattle.rules.specs.declared.Lowered.{Lowered}
-use Rattle.rules.specs.declared.Lowered.the-variants.{AsRule, AsFormula}
+use Rattle.rules.specs.declared.Lowered.the-variants.{AsRule, NoRule}
 use Rattle.rules.specs.declared.RuleAt.{RuleAt}
 
 -- The set of the actions below n that satisfy proposition p: bit a for action a.
@@ -60,15 +60,22 @@ setOf sheet sets (Ignoring a b) = 0
 abbrev pub setAt : List ℕ → ℕ → ℕ
 setAt sets i = getD sets i 0
 
--- The sets of the first n nodes, and of all; behind them, empty ones.
-abbrev pub firstSets : Sheet → ℕ → List ℕ
-firstSets sheet n = filled 64 0 (λ i sets. setOf sheet (setAt sets) (nodeOf sheet i)) n
+-- The set of a node that is typed as a formula; any other has none, and it is not worked out.
+abbrev pub ofFormula : NodeType → ℕ → ℕ
+ofFormula Unused set = 0
+ofFormula Formula set = set
+ofFormula (Policy m k) set = 0
 
-abbrev pub setsOf : Sheet → List ℕ
-setsOf sheet = firstSets sheet (sheet .count)
+-- The sets of the first n nodes, and of all; behind them, empty ones.
+abbrev pub firstSets : Sheet → List TypedNode → ℕ → List ℕ
+firstSets sheet types n = filled 64 0 (λ i sets. ofFormula (typeAt types i) (setOf sheet (setAt sets) (nodeOf sheet i))) n
+
+abbrev pub setsOf : Sheet → List TypedNode → List ℕ
+setsOf sheet types = firstSets sheet types (sheet .count)
 
 -- Whether a node is an enforced policy.
 abbrev pub isEnforced : NodeType → Bool
+isEnforced Unused = false
 isEnforced Formula = false
 isEnforced (Policy Watched k) = false
 isEnforced (Policy Enforced k) = true
@@ -79,12 +86,12 @@ byMode part watched enforced = cond (isEnforced part) enforced watched
 
 -- The rule of a policy node.
 abbrev pub lowered : (ℕ → NodeType) → (ℕ → ℕ) → Node → Lowered
-lowered types sets True = AsFormula
-lowered types sets False = AsFormula
-lowered types sets (Proposition p) = AsFormula
-lowered types sets (Negation a) = AsFormula
-lowered types sets (Conjunction a b) = AsFormula
-lowered types sets (Disjunction a b) = AsFormula
+lowered types sets True = NoRule
+lowered types sets False = NoRule
+lowered types sets (Proposition p) = NoRule
+lowered types sets (Negation a) = NoRule
+lowered types sets (Conjunction a b) = NoRule
+lowered types sets (Disjunction a b) = NoRule
 lowered types sets (Now a) = AsRule (Opening (sets a))
 lowered types sets (Holds a) = AsRule (Opening (complement (sets a)))
 lowered types sets (Count k) = AsRule (Counting k)
@@ -100,13 +107,19 @@ lowered types sets (AfterPlus a b) = AsRule (Then a b)
 lowered types sets (Fulfilling k a b c) = AsRule (Timed k a b c)
 lowered types sets (Ignoring a b) = AsRule (Filtered (sets a) b)
 
+-- The rule of a node that is typed as a policy; any other has none.
+abbrev pub ofPolicy : NodeType → Lowered → Lowered
+ofPolicy Unused rule = NoRule
+ofPolicy Formula rule = NoRule
+ofPolicy (Policy m k) rule = rule
+
 -- The rules of the first n nodes, and of all; behind them none.
 abbrev pub firstRules : List ListedNode → List TypedNode → List ℕ → ℕ → List RuleAt
 firstRules nodes types sets n =
-    filled 64 (record { of = AsFormula }) (λ i rules. record { of = lowered (typeAt types) (setAt sets) (nodeAt nodes i) }) n
+    filled 64 (record { of = NoRule }) (λ i rules. record { of = ofPolicy (typeAt types i) (lowered (typeAt types) (setAt sets) (nodeAt nodes i)) }) n
 
 abbrev pub rulesOf : Sheet → List TypedNode → List RuleAt
-rulesOf sheet types = firstRules (sheet .nodes) types (setsOf sheet) (sheet .count)
+rulesOf sheet types = firstRules (sheet .nodes) types (setsOf sheet types) (sheet .count)
 
 -- Two rules say the same of the actions below `actions`.
 pub data SameRule (actions : ℕ) : Rule ℕ → Rule ℕ → Type 0 where

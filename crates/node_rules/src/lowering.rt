@@ -20,6 +20,7 @@ fn is_enforced(node: NodeType) -> bool
     ensures { λ r. ⌜ r ≡ isEnforced node ⌝ }
 {
     match node {
+        NodeType::Unused => false,
         NodeType::Formula => false,
         NodeType::Policy(m, _) => match m {
             Mode::Watched => false,
@@ -40,12 +41,12 @@ fn lower(node: Node, types: [TypedNode; 64], sets: [u16; 64]) -> Lowered
     ensures { λ r. ⌜ r ≡ lowered (typeAt types) (setAt sets) node ⌝ }
 {
     match node {
-        Node::True => Lowered::AsFormula,
-        Node::False => Lowered::AsFormula,
-        Node::Proposition(_) => Lowered::AsFormula,
-        Node::Negation(_) => Lowered::AsFormula,
-        Node::Conjunction(_, _) => Lowered::AsFormula,
-        Node::Disjunction(_, _) => Lowered::AsFormula,
+        Node::True => Lowered::NoRule,
+        Node::False => Lowered::NoRule,
+        Node::Proposition(_) => Lowered::NoRule,
+        Node::Negation(_) => Lowered::NoRule,
+        Node::Conjunction(_, _) => Lowered::NoRule,
+        Node::Disjunction(_, _) => Lowered::NoRule,
         Node::Now(a) => Lowered::AsRule(NodeRule::Opening(set_at(sets, a))),
         Node::Holds(a) => Lowered::AsRule(NodeRule::Opening(65535 - set_at(sets, a))),
         Node::Count(k) => Lowered::AsRule(NodeRule::Counting(k)),
@@ -71,24 +72,34 @@ fn lower(node: Node, types: [TypedNode; 64], sets: [u16; 64]) -> Lowered
     }
 }
 
-// The rule of each node; a formula has none.
+// The rule of each used policy node; no other has one.
 pub fn rules_of(sheet: Sheet, types: [TypedNode; 64]) -> [RuleAt; 64]
     requires { ⌜ Formed sheet ⌝ }
     ensures { λ r. ⌜ r ≡ rulesOf sheet types ⌝ }
 {
     let count = sheet.count;
     let nodes = sheet.nodes;
-    let sets = formula_sets(sheet);
+    let sets = formula_sets(sheet, types);
     let mut rules = [RuleAt {
-        of: Lowered::AsFormula,
+        of: Lowered::NoRule,
     }; 64];
     let mut n = 0;
     while n < count {
-        let listed = nodes[n];
-        let node = listed.node;
-        let of = lower(node, types, sets);
-        rules[n] = RuleAt { of };
+        let i = n;
         n += 1;
+        let typed = types[i];
+        let of = typed.of;
+        match of {
+            NodeType::Unused => {}
+            NodeType::Formula => {}
+            NodeType::Policy(_, _) => {
+                let listed = nodes[i];
+                let node = listed.node;
+                rules[i] = RuleAt {
+                    of: lower(node, types, sets),
+                };
+            }
+        }
     }
     rules
 }

@@ -1,6 +1,8 @@
 // The sets of actions that satisfy the formulas of a sheet.
 use syntax::Node;
+use syntax::NodeType;
 use syntax::Sheet;
+use syntax::TypedNode;
 ghost use mathlib.Core.Path.{_≡_};
 ghost use Prim.Native.Nat.{_^_, _≤_, _<_};
 ghost use Rattle.syntax.specs.Formed.{ArgumentFits, Formed};
@@ -70,20 +72,29 @@ fn formula_set(node: Node, sheet: Sheet, sets: [u16; 64]) -> u16
     }
 }
 
-// The set of each formula node: bit a for action a.
-pub fn formula_sets(sheet: Sheet) -> [u16; 64]
+// The set of each used formula node: bit a for action a.
+pub fn formula_sets(sheet: Sheet, types: [TypedNode; 64]) -> [u16; 64]
     requires { ⌜ Formed sheet ⌝ }
-    ensures { λ r. ⌜ r ≡ setsOf sheet ⌝ }
+    ensures { λ r. ⌜ r ≡ setsOf sheet types ⌝ }
 {
     let count = sheet.count;
     let nodes = sheet.nodes;
     let mut sets = [0u16; 64];
     let mut n = 0;
     while n < count {
-        let listed = nodes[n];
-        let node = listed.node;
-        sets[n] = formula_set(node, sheet, sets);
+        let i = n;
         n += 1;
+        let typed = types[i];
+        let of = typed.of;
+        match of {
+            NodeType::Unused => {}
+            NodeType::Formula => {
+                let listed = nodes[i];
+                let node = listed.node;
+                sets[i] = formula_set(node, sheet, sets);
+            }
+            NodeType::Policy(_, _) => {}
+        }
     }
     sets
 }

@@ -1,1 +1,2 @@
 pub mod ReachedSets
+pub mod NodeSets

@@ -1,5 +1,4 @@
--- The set of the nodes reached from a node is right: bit m is set exactly where m is reached. Proved for any parts that stand before their node, and
--- then for the parts of Ands.
+-- The set of what is reached is right: bit m is set exactly where m is reached, for any parts that stand before their whole.
 -- Assumes nothing.
 use mathlib.Core.Path.{_≡_, refl, sym, _∙_, subst}
 use mathlib.Core.Bool.{Bool, true, false, cond}
@@ -11,20 +10,15 @@ use lib.Bits.{bitOr}
 use borrow.Author.Tests.{eqb-true, eq-eqb}
 use Rattle.base.proofs.Truths.{not-true, or-true, either-true}
 use Rattle.policy.specs.Formula.{bit}
-use Rattle.policy.proofs.Sets.{bit-empty, bit-power, bit-or}
-use Rattle.syntax.specs.Formed.{PartsBelow}
-use Rattle.syntax.specs.Nodes.{nodeOf}
-use Rattle.reached.specs.Reached.{Reached, itself, onward, AndPart, left, right, ReachedByAnd, andSet, andSets, spread, reachedSet, Earlier, PartsEarlier}
-use Rattle.syntax.specs.declared.Node.{Node}
-use Rattle.syntax.specs.declared.Node.the-variants.{True, False, Proposition, Negation, Conjunction, Disjunction, Now, Holds, Count, Not, And, Or, Eventually, Always, BeforeMinus, BeforePlus, AfterMinus, AfterPlus, Fulfilling, Ignoring}
-use Rattle.syntax.specs.declared.Sheet.{Sheet}
+use Rattle.policy.proofs.Sets.{bit-power, bit-or}
+use Rattle.reached.specs.Reached.{Reached, itself, onward, spread, reachedSet, Earlier}
 
 -- more parts reach more
 pub reached-map : {P Q : ℕ → ℕ → Type 0} {from : ℕ} → ((n m : ℕ) → P n m → Q n m) → {m : ℕ} → Reached P from m → Reached Q from m
 reached-map f itself = itself
 reached-map f (onward r p) = onward (reached-map f r) (f _ _ p)
 
--- what is reached stands no later, where parts stand before their node
+-- what is reached stands no later, where parts stand before their whole
 pub reached-no-later : {P : ℕ → ℕ → Type 0} {from : ℕ} → ((n m : ℕ) → n ≤ from → P n m → m < n) → {m : ℕ} → Reached P from m → m ≤ from
 reached-no-later earlier itself = omega arith
 reached-no-later earlier (onward r p) = let h = reached-no-later earlier r in let g = earlier _ _ h p in omega arith
@@ -106,55 +100,3 @@ module _ (parts : ℕ → ℕ) where
       where
         first : (m : ℕ) → bit (2 ^ from) m ≡ true → Reached Listed from m
         first m e = subst (Reached Listed from) (sym (eqb-true m from (sym (bit-power from m) ∙ e))) itself
-
--- the parts of an And, as a set
-none : {X : Type 0} (m : ℕ) → bit 0 m ≡ true → X
-none m e = not-true (sym (bit-empty m) ∙ e)
-
-in-and : (a b m : ℕ) → bit (bitOr (2 ^ a) (2 ^ b)) m ≡ true → (m ≡ a) ⊎ (m ≡ b)
-in-and a b m e = elim (or-true (bit (2 ^ a) m) (bit (2 ^ b) m) (sym (bit-or (2 ^ a) (2 ^ b) m) ∙ e)) [
-  | inl h ↦ inl (eqb-true m a (sym (bit-power a m) ∙ h))
-  | inr h ↦ inr (eqb-true m b (sym (bit-power b m) ∙ h))
-]
-
-module _ (sheet : Sheet) where
-  and-part : (n m : ℕ) (node : Node) → nodeOf sheet n ≡ node → bit (andSet node) m ≡ true → AndPart sheet n m
-  and-part n m True q e = none m e
-  and-part n m False q e = none m e
-  and-part n m (Proposition p) q e = none m e
-  and-part n m (Negation a) q e = none m e
-  and-part n m (Conjunction a b) q e = none m e
-  and-part n m (Disjunction a b) q e = none m e
-  and-part n m (Now a) q e = none m e
-  and-part n m (Holds a) q e = none m e
-  and-part n m (Count k) q e = none m e
-  and-part n m (Not a) q e = none m e
-  and-part n m (And a b) q e = elim (in-and a b m e) [
-    | inl h ↦ subst (AndPart sheet n) (sym h) (left q)
-    | inr h ↦ subst (AndPart sheet n) (sym h) (right q)
-  ]
-  and-part n m (Or a b) q e = none m e
-  and-part n m (Eventually a) q e = none m e
-  and-part n m (Always a) q e = none m e
-  and-part n m (BeforeMinus a b) q e = none m e
-  and-part n m (BeforePlus a b) q e = none m e
-  and-part n m (AfterMinus a b) q e = none m e
-  and-part n m (AfterPlus a b) q e = none m e
-  and-part n m (Fulfilling k a b c) q e = none m e
-  and-part n m (Ignoring a b) q e = none m e
-
-  part-listed : (n m : ℕ) → AndPart sheet n m → bit (andSets (sheet .nodes) n) m ≡ true
-  part-listed n m (left {a} {b} q) = rw q (bit-or (2 ^ a) (2 ^ b) a ∙ either-true (bit (2 ^ a) a) (bit (2 ^ b) a) (inl (bit-power a a ∙ eq-eqb a a refl)))
-  part-listed n m (right {a} {b} q) = rw q (bit-or (2 ^ a) (2 ^ b) b ∙ either-true (bit (2 ^ a) b) (bit (2 ^ b) b) (inr (bit-power b b ∙ eq-eqb b b refl)))
-
-  module _ (from : ℕ) (formed : PartsEarlier (sheet .nodes) from) where
-    -- the parts of an And stand before it
-    pub and-earlier : (n m : ℕ) → n ≤ from → AndPart sheet n m → m < n
-    and-earlier n m h (left q) = subst (PartsBelow n) q (formed n h) .0
-    and-earlier n m h (right q) = subst (PartsBelow n) q (formed n h) .1
-
-    -- Bit m of the set is set exactly where m is reached through And alone.
-    pub reached-by-and : (m : ℕ) → (bit (reachedSet (andSets (sheet .nodes)) from) m ≡ true) ↔ ReachedByAnd sheet from m
-    reached-by-and m =
-        let e = reached-set (andSets (sheet .nodes)) from (λ n m h p. and-earlier n m h (and-part n m (nodeOf sheet n) refl p)) m in
-        (λ b. reached-map (λ n m p. and-part n m (nodeOf sheet n) refl p) (e .0 b), λ r. e .1 (reached-map part-listed r))

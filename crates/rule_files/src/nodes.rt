@@ -194,5 +194,6 @@ pub fn bound_under(sheet: &[u8], node: usize) -> Bound {
     match syntax::type_at(types, first_part(sheet, node)) {
         NodeType::Policy(_, bound) => bound,
         NodeType::Formula => Bound::Unbounded,
+        NodeType::Unused => Bound::Unbounded,
     }
 }

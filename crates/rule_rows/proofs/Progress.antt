@@ -15,7 +15,7 @@ use Rattle.rules.specs.Rules.{slotAt, ruleAt, ruleOver, Readable, EarlierRule}
 use Rattle.rules.specs.Steps.{codeStepOf, codeStep, codeStart}
 use Rattle.rules.specs.declared.NodeRule.{NodeRule}
 use Rattle.rules.specs.declared.Lowered.{Lowered}
-use Rattle.rules.specs.declared.Lowered.the-variants.{AsRule, AsFormula}
+use Rattle.rules.specs.declared.Lowered.the-variants.{AsRule, NoRule}
 use Rattle.rules.specs.declared.RuleAt.{RuleAt}
 use Rattle.rules.proofs.RuleParts.{all-map}
 use Rattle.rules.proofs.Slots.{same-slots}
@@ -33,7 +33,7 @@ moved actions before behind P rule e p =
     subst (λ (m : Rule Part). P (codeStepOf m) (encode m (start m))) (sym (same-slots actions behind before rule e)) p
 
 -- a formula is no rule, and a node is one rule
-not-rule : {A : Type 0} {of : Lowered} {rule : NodeRule} → of ≡ AsFormula → of ≡ AsRule rule → A
+not-rule : {A : Type 0} {of : Lowered} {rule : NodeRule} → of ≡ NoRule → of ≡ AsRule rule → A
 not-rule e f = absurd (let z : _≡_ {A = ℕ} 0 1 = cc in omega arith)
 
 same-rule : {rule other : NodeRule} → _≡_ {A = Lowered} (AsRule rule) (AsRule other) → rule ≡ other
@@ -61,7 +61,7 @@ module _ {rules : List RuleAt} {count actions valueLimit rowLimit : ℕ} {work�
     -- so node n can be built
     pub next-buildable : (node : Lowered) → ruleAt rules n ≡ node → (values : List ℕ) → 65536 ≤ length before → 1024 ≤ length values
         → NextBuildable node before n actions valueLimit rowLimit values
-    next-buildable AsFormula e values room space = tt
+    next-buildable NoRule e values room space = tt
     next-buildable (AsRule rule) e values room space =
         record {
           steps = record {
@@ -114,12 +114,12 @@ module _ {rules : List RuleAt} {count actions valueLimit rowLimit : ℕ} {work�
                 → (b : RuleBuilt actions valueLimit rowLimit behind m rule) × (b .rows ≡ rows)
             newest m h rule e = let q : m ≡ n = omega arith in rw q (own-moved rule (rw q at e))
 
-    formula-passed : ruleAt rules n ≡ AsFormula → BuiltTo rules actions valueLimit rowLimit (n + 1) before × LastRows rules actions valueLimit rowLimit (n + 1) 0 before
+    formula-passed : ruleAt rules n ≡ NoRule → BuiltTo rules actions valueLimit rowLimit (n + 1) before × LastRows rules actions valueLimit rowLimit (n + 1) 0 before
     formula-passed e = one-more before (λ i q. refl) 0 (λ rule f. not-rule e f)
 
     pub advances : (node : Lowered) → ruleAt rules n ≡ node → (is : MachineBuilt) (behind : List ℕ)
         → NextTo node actions valueLimit rowLimit n is before behind → Advances rules count actions valueLimit rowLimit n is behind
-    advances AsFormula e is behind (f, same) = rw (f, same) (formula-passed e)
+    advances NoRule e is behind (f, same) = rw (f, same) (formula-passed e)
     advances (AsRule rule) e (Rows rows) behind w =
         one-more behind (w .others) rows (λ other f. rw (← same-rule (sym e ∙ f)) (w .built, w .counted))
     advances (AsRule rule) e TooManyValues behind (over, same) =

@@ -13,7 +13,7 @@ use Rattle.policy.specs.Rule.{Rule, opening, counting, same, both, either, copi
 use Rattle.rules.specs.declared.NodeRule.{NodeRule}
 use Rattle.rules.specs.declared.NodeRule.the-variants.{Opening, Counting, Same, Both, Either, Copied, Until, Then, Timed, Filtered}
 use Rattle.rules.specs.declared.Lowered.{Lowered}
-use Rattle.rules.specs.declared.Lowered.the-variants.{AsFormula, AsRule}
+use Rattle.rules.specs.declared.Lowered.the-variants.{NoRule, AsRule}
 use Rattle.rules.specs.declared.RuleAt.{RuleAt}
 use Rattle.rules.specs.declared.ValueMove.{ValueMove}
 use Rattle.rules.specs.declared.ValueMove.the-variants.{Trip, Go}
@@ -45,7 +45,7 @@ machineRule actions work rule = onParts (partAt actions work) (ruleOver rule)
 
 -- What node i of a list is lowered to. Past the list's end there is no rule.
 abbrev pub ruleAt : List RuleAt → ℕ → Lowered
-ruleAt rules i = getD rules i (record { of = AsFormula }) .of
+ruleAt rules i = getD rules i (record { of = NoRule }) .of
 
 -- Where the code's answer leads.
 abbrev pub moveOf : ValueMove → Move ℕ

@@ -27,9 +27,9 @@ pub enum ValueMove {
     Go(u64),
 }
 
-// What a node is lowered to: an action formula, which has no rows, or a rule, whose rows are built.
+// What a node is lowered to: a rule, whose rows are built; or none, for an action formula and a node that is not used.
 pub enum Lowered {
-    AsFormula,
+    NoRule,
     AsRule(NodeRule),
 }
 

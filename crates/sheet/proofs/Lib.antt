@@ -3,7 +3,6 @@ pub mod ReadNodes
 pub mod Judging
 pub mod Fields
 pub mod ReadFrom
-pub mod NodeByNode
 pub mod Spots
 pub mod Written
 pub mod NodeBack

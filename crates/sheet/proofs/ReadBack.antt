@@ -11,7 +11,7 @@ use Rattle.base.specs.Word.{wordBytes}
 use Rattle.base.proofs.Joined.{getD-joined}
 use Rattle.base.proofs.Words.{word-back}
 use Rattle.syntax.specs.Nodes.{nodeOf, propositionsOf}
-use Rattle.syntax.specs.Typed.{judgeSheet}
+use Rattle.typing.specs.Typed.{judgeSheet}
 use Rattle.syntax.specs.declared.Sheet.{Sheet}
 use Rattle.sheet.specs.Layout.{actionCount, nodeCount, nodesAt, total, entryOf, field, WellLaid}
 use Rattle.sheet.specs.Reading.{nodeRead, allRead, readNodes, readActions}

@@ -9,14 +9,15 @@ use Rattle.trace.specs.declared.Mode.{Mode}
 use Rattle.syntax.specs.Nodes.{nodeOf}
 use Rattle.syntax.specs.Formed.{PartsBelow, ArgumentFits, Formed}
 use Rattle.syntax.specs.Types.{typeAt}
-use Rattle.syntax.specs.Typed.{Typings, mistyped, typed, typeNodes, faulty, sound, judgeLast, judgeTyped, judgeSheet}
+use Rattle.reached.specs.Parts.{usedSet}
+use Rattle.typing.specs.Typed.{Typings, mistyped, typed, typeNodes, faulty, sound, judgeLast, judgeTyped, judgeSheet}
 use Rattle.syntax.specs.declared.Fault.{Fault}
 use Rattle.syntax.specs.declared.Judged.{Judged}
 use Rattle.syntax.specs.declared.Judged.the-variants.{Sound, Faulty}
 use Rattle.syntax.specs.declared.ListedNode.{ListedNode}
 use Rattle.syntax.specs.declared.Node.{Node}
 use Rattle.syntax.specs.declared.NodeType.{NodeType}
-use Rattle.syntax.specs.declared.NodeType.the-variants.{Formula, Policy}
+use Rattle.syntax.specs.declared.NodeType.the-variants.{Unused, Formula, Policy}
 use Rattle.syntax.specs.declared.Sheet.{Sheet}
 use Rattle.syntax.specs.declared.TypedNode.{TypedNode}
 use Rattle.sheet.specs.Layout.{layoutOf, entryOf, field}
@@ -38,6 +39,7 @@ not-sound e = absurd (let z : _≡_ {A = ℕ} 0 1 = cc in omega arith)
 -- a sound outcome has the sheet that is judged
 same-last : (s : Sheet) (t : List TypedNode) (last : NodeType) {m : Mode} {sheet : Sheet} {types : List TypedNode}
     → judgeLast s t last ≡ sound m sheet types → s ≡ sheet
+same-last s t Unused e = not-sound e
 same-last s t Formula e = not-sound e
 same-last s t (Policy m k) e = cc
 
@@ -46,10 +48,9 @@ same-sheet s (mistyped f t) e = not-sound e
 same-sheet s (typed t) e = same-last s t (typeAt t (s .count - 1)) e
 
 -- and comes of nodes that are all read
-all-read : (j : Judged) (s : Sheet) (k : ℕ) {m : Mode} {sheet : Sheet} {types : List TypedNode} → judgeBy j s k ≡ sound m sheet types
-    → (j ≡ Sound) × (s ≡ sheet)
-all-read Sound s k e = (refl, same-sheet s (typeNodes (s .nodes) (s .count)) e)
-all-read (Faulty f) s k e = not-sound e
+all-read : (j : Judged) (s : Sheet) {m : Mode} {sheet : Sheet} {types : List TypedNode} → judgeBy j s ≡ sound m sheet types → (j ≡ Sound) × (s ≡ sheet)
+all-read Sound s e = (refl, same-sheet s (typeNodes (usedSet s) (s .nodes) (s .count)) e)
+all-read (Faulty f) s e = not-sound e
 
 -- what is read of a node is one node
 listed : {x y : ListedNode} → x .node ≡ y .node → x ≡ y
@@ -136,7 +137,7 @@ module _ (bytes : List ℕ) where
     unfolding read-sheet
     read-laid (Misplaced f) p e = not-sound e
     read-laid (Laid actions count from-a from-n) p e =
-        let h = all-read (readNodes bytes count .judged) (read-sheet actions count) (readNodes bytes count .count) e in
+        let h = all-read (readNodes bytes count .judged) (read-sheet actions count) e in
         subst (ReadFrom bytes) (h .1) (read-all p (h .0))
 
     -- The theorem that ties sheets to bytes: what is judged sound is a formed sheet that stands in the bytes, and checks 6 and 7 of it.

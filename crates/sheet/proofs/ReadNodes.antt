@@ -22,6 +22,7 @@ use Rattle.sheet.specs.declared.NodeRead.the-variants.{Known, UnknownKin
 use Rattle.sheet.specs.declared.NodesRead.{NodesRead}
 use Rattle.sheet.specs.declared.Layout.the-variants.{Laid}
 use Rattle.sheet.proofs.Header.{from-laid}
+use Rattle.sheet.proofs.Fields.{parts-below}
 
 module _ (bytes : List ℕ) where
   -- the fields of node n stand where the code reads them
@@ -60,16 +61,6 @@ pub counted : (bytes : List ℕ) (n : ℕ) → CountedAs (readNodes bytes n .jud
 counted bytes zero = refl
 counted bytes (suc n) = counted-next n (readNodes bytes n) (readNodes bytes n .judged) refl (counted bytes n) (nodeRead bytes n)
 
-pub counted-within : (j : Judged) {read count : ℕ} → CountedAs j read count → read ≤ count
-counted-within Sound h = omega arith
-counted-within (Faulty f) h = omega arith
-
--- what is read of a sheet whose areas are found
-pub read-within : (bytes : List ℕ) {a n p q : ℕ} → layoutOf bytes ≡ Laid a n p q → ReadWithin n (readNodes bytes n)
-read-within bytes {a} {n} e =
-    let h = from-laid bytes e in
-    record { some = omega (arith, h .0 .some-node, h .2); few = omega (arith, h .0 .few-nodes, h .2); counted = counted bytes n }
-
 -- the nodes listed are those that are read
 abbrev pub IsRead : List ℕ → ℕ → ListedNode → Type 0
 IsRead bytes n listed = nodeRead bytes n ≡ Known (Right (listed .node))
@@ -95,3 +86,15 @@ module _ (bytes : List ℕ) where
   pub all-right : (n : ℕ) → ((i : ℕ) → i < n → (node : Node) × (nodeRead bytes i ≡ Known (Right node))) → readNodes bytes n .judged ≡ Sound
   all-right zero each = refl
   all-right (suc n) each = rw (all-right n (λ i h. each i (omega arith)), each n (omega arith) .1)
+
+-- what is read of a sheet whose areas are found
+pub read-within : (bytes : List ℕ) {a n p q : ℕ} → layoutOf bytes ≡ Laid a n p q → ReadWithin n (readNodes bytes n)
+read-within bytes {a} {n} e =
+    let h = from-laid bytes e in
+    let few : n ≤ 64 = omega (arith, h .0 .few-nodes, h .2) in
+    record {
+      some = omega (arith, h .0 .some-node, h .2);
+      few = few;
+      counted = counted bytes n;
+      parts = λ i g. parts-below i (field bytes i 0) (field bytes i 1) (field bytes i 2) (field bytes i 3) (field bytes i 4) _ (nodes-listed bytes n few .each i g) .0;
+    }

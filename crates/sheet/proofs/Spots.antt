@@ -5,14 +5,16 @@ use mathlib.Core.Bool.{Bool, true, false, cond}
 use mathlib.Core.List.{List}
 use Prim.Native.Nat.{ℕ, zero, suc, _-_, _≤_, _<_}
 use native.Mathlib.Omega.{arith}
+use Rattle.policy.specs.Formula.{bit}
 use Rattle.syntax.specs.Nodes.{nodeAt}
 use Rattle.syntax.specs.Faults.{numberOf, spotOf}
 use Rattle.syntax.specs.Types.{typeAt, typeNode}
-use Rattle.syntax.specs.Typed.{Typings, mistyped, typed, typeNext, unlessMistyped, typeNodes, Judgement, faulty, sound, judgeLast, judgeTyped}
+use Rattle.reached.specs.Parts.{usedSet}
+use Rattle.typing.specs.Typed.{Typings, mistyped, typed, typeNext, unlessMistyped, typeNodes, Judgement, faulty, sound, judgeLast, judgeTyped}
 use Rattle.syntax.specs.declared.ListedNode.{ListedNode}
 use Rattle.syntax.specs.declared.Sheet.{Sheet}
 use Rattle.syntax.specs.declared.NodeType.{NodeType}
-use Rattle.syntax.specs.declared.NodeType.the-variants.{Formula, Policy}
+use Rattle.syntax.specs.declared.NodeType.the-variants.{Unused, Formula, Policy}
 use Rattle.syntax.specs.declared.TypedNode.{TypedNode}
 use Rattle.syntax.specs.declared.TypeFound.{TypeFound}
 use Rattle.syntax.specs.declared.TypeFound.the-variants.{Fits, Unfit, TooLong}
@@ -22,7 +24,7 @@ use Rattle.syntax.specs.declared.Judged.{Judged}
 use Rattle.syntax.specs.declared.Judged.the-variants.{Sound, Faulty}
 use Rattle.sheet.specs.Layout.{lengthRight, countsRight, areasRight, layoutOf}
 use Rattle.sheet.specs.Reading.{readNext, unlessStopped, readNodes, readActions, nodeRead}
-use Rattle.sheet.specs.Judge.{firstFault, judgeBy, judgeLaid, judge}
+use Rattle.sheet.specs.Judge.{judgeBy, judgeLaid, judge}
 use Rattle.sheet.specs.declared.NodeFields.the-variants.{Right, Wrong}
 use Rattle.sheet.specs.declared.NodeRead.{NodeRead}
 use Rattle.sheet.specs.declared.NodeRead.the-variants.{Known, UnknownKind}
@@ -56,39 +58,37 @@ unfolding LowTypings
 low-then n (mistyped f types) next l g = omega arith
 low-then n (typed types) next l g = g types
 
-low-types : (nodes : List ListedNode) (n : ℕ) → LowTypings n (typeNodes nodes n)
+low-own : (n : ℕ) (types : List TypedNode) (t : TypeFound) (used : Bool) → LowTypings (suc n) (cond used (typeNext n types t) (typed types))
 unfolding LowTypings
-low-types nodes zero = tt
-low-types nodes (suc n) = low-then n (typeNodes nodes n) _ (low-types nodes n) (λ types. low-type n types (typeNode (nodeAt nodes n) (typeAt types)))
+low-own n types t true = low-type n types t
+low-own n types t false = tt
+
+low-types : (used : ℕ) (nodes : List ListedNode) (n : ℕ) → LowTypings n (typeNodes used nodes n)
+unfolding LowTypings
+low-types used nodes zero = tt
+low-types used nodes (suc n) =
+    low-then n (typeNodes used nodes n) _ (low-types used nodes n) (λ types. low-own n types (typeNode (nodeAt nodes n) (typeAt types)) (bit used n))
 
 -- and of reading
 LowJudged : ℕ → Judged → Type 0
 LowJudged k Sound = Unit {0}
 LowJudged k (Faulty f) = spotOf f < k
 
-record LowRead (n : ℕ) (r : NodesRead) : Type 0 where
-  fault : LowJudged n (r .judged)
-  before : r .count ≤ n
-
-low-node : (n : ℕ) (nodes : List ListedNode) (r : NodeRead) → LowRead (suc n) (readNext n nodes r)
+low-node : (n : ℕ) (nodes : List ListedNode) (r : NodeRead) → LowJudged (suc n) (readNext n nodes r .judged)
 unfolding LowJudged
-low-node n nodes (Known (Right node)) = record { fault = tt; before = omega arith }
-low-node n nodes (Known Wrong) = record { fault = omega arith; before = omega arith }
-low-node n nodes UnknownKind = record { fault = omega arith; before = omega arith }
+low-node n nodes (Known (Right node)) = tt
+low-node n nodes (Known Wrong) = omega arith
+low-node n nodes UnknownKind = omega arith
 
-low-stays : (n : ℕ) (j : Judged) (r : NodesRead) (next : List ListedNode → NodesRead) → r .judged ≡ j → LowRead n r
-    → ((nodes : List ListedNode) → LowRead (suc n) (next nodes)) → LowRead (suc n) (unlessStopped j r next)
+low-stays : (n : ℕ) (j : Judged) (r : NodesRead) (next : List ListedNode → NodesRead) → r .judged ≡ j → LowJudged n j
+    → ((nodes : List ListedNode) → LowJudged (suc n) (next nodes .judged)) → LowJudged (suc n) (unlessStopped j r next .judged)
 unfolding LowJudged
 low-stays n Sound r next e l g = g (r .nodes)
-low-stays n (Faulty f) r next e l g = record { fault = more (r .judged) (l .fault); before = let h = l .before in omega arith }
-  where
-    more : (j : Judged) → LowJudged n j → LowJudged (suc n) j
-    more Sound h = tt
-    more (Faulty x) h = omega arith
+low-stays n (Faulty f) r next e l g = subst (LowJudged (suc n)) (sym e) (omega arith)
 
-low-read : (bytes : List ℕ) (n : ℕ) → LowRead n (readNodes bytes n)
+low-read : (bytes : List ℕ) (n : ℕ) → LowJudged n (readNodes bytes n .judged)
 unfolding LowJudged
-low-read bytes zero = record { fault = tt; before = omega arith }
+low-read bytes zero = tt
 low-read bytes (suc n) = low-stays n (readNodes bytes n .judged) (readNodes bytes n) _ refl (low-read bytes n) (λ nodes. low-node n nodes (nodeRead bytes n))
 
 Low : Judgement → Type 0
@@ -97,6 +97,7 @@ Low (sound mode sheet types) = Unit {0}
 
 low-last : (sheet : Sheet) (types : List TypedNode) (t : NodeType) → 1 ≤ sheet .count → sheet .count ≤ 64 → Low (judgeLast sheet types t)
 unfolding Low
+low-last sheet types Unused h g = omega arith
 low-last sheet types Formula h g = omega arith
 low-last sheet types (Policy m k) h g = tt
 
@@ -105,16 +106,11 @@ unfolding Low LowTypings
 low-typed sheet (mistyped f types) h g l = omega arith
 low-typed sheet (typed types) h g l = low-last sheet types (typeAt types (sheet .count - 1)) h g
 
-low-first : (k m : ℕ) (t : Typings) (f : Fault) → k ≤ m → LowTypings k t → spotOf f < m → spotOf (firstFault t f) < m
-unfolding LowTypings
-low-first k m (mistyped g types) f h l s = omega arith
-low-first k m (typed types) f h l s = s
-
-low-by : (sheet : Sheet) (j : Judged) (before : ℕ) → 1 ≤ sheet .count → sheet .count ≤ 64 → LowJudged (sheet .count) j → before ≤ sheet .count → Low (judgeBy j sheet before)
+low-by : (sheet : Sheet) (j : Judged) → 1 ≤ sheet .count → sheet .count ≤ 64 → LowJudged (sheet .count) j → Low (judgeBy j sheet)
 unfolding Low LowJudged
-low-by sheet Sound before h g l b = low-typed sheet (typeNodes (sheet .nodes) (sheet .count)) h g (low-types (sheet .nodes) (sheet .count))
-low-by sheet (Faulty f) before h g l b =
-    let s = low-first before (sheet .count) (typeNodes (sheet .nodes) before) f b (low-types (sheet .nodes) before) l in omega arith
+low-by sheet Sound h g l =
+    low-typed sheet (typeNodes (usedSet sheet) (sheet .nodes) (sheet .count)) h g (low-types (usedSet sheet) (sheet .nodes) (sheet .count))
+low-by sheet (Faulty f) h g l = omega arith
 
 -- checks 1 to 3 name no node
 misplaced : (x y z : Bool) (l : Layout) (f : Fault) → (l ≡ Misplaced f → ⊥)
@@ -128,9 +124,8 @@ low-laid : (bytes : List ℕ) (l : Layout) → layoutOf bytes ≡ l → Low (jud
 unfolding Low
 low-laid bytes (Laid a n p q) e =
     let w = from-laid bytes e in
-    let r = low-read bytes n in
-    low-by (record { actions = a; propositions = readActions bytes a; count = n; nodes = readNodes bytes n .nodes }) (readNodes bytes n .judged) (readNodes bytes n .count)
-    (omega (arith, w .0 .some-node, w .2)) (omega (arith, w .0 .few-nodes, w .2)) (r .fault) (r .before)
+    low-by (record { actions = a; propositions = readActions bytes a; count = n; nodes = readNodes bytes n .nodes }) (readNodes bytes n .judged)
+    (omega (arith, w .0 .some-node, w .2)) (omega (arith, w .0 .few-nodes, w .2)) (low-read bytes n)
 low-laid bytes (Misplaced f) e =
     misplaced (lengthRight bytes) (countsRight bytes) (areasRight bytes) _ f (λ d. let z : _≡_ {A = ℕ} 0 1 = cc in omega arith) e
 

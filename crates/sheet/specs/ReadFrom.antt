@@ -8,7 +8,7 @@ use lib.ListN.{length}
 use Rattle.trace.specs.declared.Mode.{Mode}
 use Rattle.syntax.specs.Nodes.{nodeOf, propositionsOf}
 use Rattle.syntax.specs.Formed.{Formed}
-use Rattle.syntax.specs.Typed.{sound, judgeSheet}
+use Rattle.typing.specs.Typed.{sound, judgeSheet}
 use Rattle.syntax.specs.declared.Node.the-variants.{True}
 use Rattle.syntax.specs.declared.Sheet.{Sheet}
 use Rattle.syntax.specs.declared.TypedNode.{TypedNode}

@@ -22,7 +22,7 @@ use Rattle.policy.proofs.Typings.{typed-as}
 use Rattle.policy.proofs.Rules.{watched-satisfied, enforced-satisfied}
 use Rattle.syntax.specs.Nodes.{propositionsOf}
 use Rattle.syntax.specs.Meaning.{sheetPolicy}
-use Rattle.syntax.specs.Typed.{Judgement, faulty, sound, noTypes}
+use Rattle.typing.specs.Typed.{Judgement, faulty, sound, noTypes}
 use Rattle.syntax.specs.declared.TypedNode.{TypedNode}
 use Rattle.sheet.specs.Judge.{judge}
 use Rattle.sheet.specs.Writing.{sheetBytes}

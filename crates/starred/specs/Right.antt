@@ -11,7 +11,7 @@ use Rattle.policy.specs.Policy.{satisfies}
 use Rattle.policy.specs.Typing.{typeOf as typingOf}
 use Rattle.syntax.specs.Nodes.{propositionsOf}
 use Rattle.syntax.specs.Meaning.{sheetPolicy}
-use Rattle.syntax.specs.Typed.{sound}
+use Rattle.typing.specs.Typed.{sound}
 use Rattle.syntax.specs.declared.Sheet.{Sheet}
 use Rattle.syntax.specs.declared.TypedNode.{TypedNode}
 use Rattle.sheet.specs.Judge.{judge}

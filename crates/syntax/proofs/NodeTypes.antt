@@ -1,4 +1,4 @@
--- The type of a node and its parts: it is made of their types alone, and says which are formulas and which policies.
+-- The type of a node says which of its parts are formulas and which policies.
 -- Assumes nothing.
 use mathlib.Core.Path.{_≡_, refl, sym, _∙_}
 use Prim.Native.Nat.{ℕ, _<_}
@@ -14,7 +14,7 @@ use Rattle.syntax.specs.Types.{typingOf, ifFormula, found, typeNode}
 use Rattle.syntax.specs.declared.Node.{Node}
 use Rattle.syntax.specs.declared.Node.the-variants.{True, False, Proposition, Negation, Conjunction, Disjunction, Now, Holds, Count, Not, And, Or, Eventually, Always, BeforeMinus, BeforePlus, AfterMinus, AfterPlus, Fulfilling, Ignoring}
 use Rattle.syntax.specs.declared.NodeType.{NodeType}
-use Rattle.syntax.specs.declared.NodeType.the-variants.{Formula, Policy}
+use Rattle.syntax.specs.declared.NodeType.the-variants.{Unused, Formula, Policy}
 use Rattle.syntax.specs.declared.TypeFound.{TypeFound}
 use Rattle.syntax.specs.declared.TypeFound.the-variants.{Fits, Unfit}
 
@@ -56,10 +56,11 @@ pub unfit : {A : Type 0} {t : NodeType} → Unfit ≡ Fits t → A
 unfit e = absurd (let z : _≡_ {A = ℕ} 0 1 = cc in omega arith)
 
 pub from-formula : (s : NodeType) (x : TypeFound) {t : NodeType} → ifFormula s x ≡ Fits t → (s ≡ Formula) × (x ≡ Fits t)
+from-formula Unused x e = unfit e
 from-formula Formula x e = (refl, e)
 from-formula (Policy m k) x e = unfit e
 
--- what is found of parts that have to be policies: nothing where one is a formula
+-- what is found of parts that have to be policies: nothing where one is not
 module _ (types : ℕ → NodeType) (n : ℕ) where
   abbrev P : ℕ → Type 0
   P = PolicyBefore types n
@@ -68,6 +69,7 @@ module _ (types : ℕ → NodeType) (n : ℕ) where
   one find strict a h {t} e = by (types a) refl
     where
       by : (s : NodeType) → types a ≡ s → P a
+      by Unused p = unfit (sym strict ∙ rw p at e)
       by Formula p = unfit (sym strict ∙ rw p at e)
       by (Policy m k) p = record { before = h; mode = m; bound = k; is = p }
 
@@ -97,10 +99,13 @@ module _ (types : ℕ → NodeType) (n : ℕ) where
   three k a b c h {t} e = by (types a) (types b) (types c) refl refl refl
     where
       by : (u v w : NodeType) → types a ≡ u → types b ≡ v → types c ≡ w → P a × P b × P c
+      by Unused v w p q r = unfit (rw p at e)
       by Formula v w p q r = unfit (rw p at e)
       by (Policy Enforced i) v w p q r = unfit (rw p at e)
+      by (Policy Watched i) Unused w p q r = unfit (rw (p, q) at e)
       by (Policy Watched i) Formula w p q r = unfit (rw (p, q) at e)
       by (Policy Watched i) (Policy Watched j) w p q r = unfit (rw (p, q) at e)
+      by (Policy Watched i) (Policy Enforced j) Unused p q r = unfit (rw (p, q, r) at e)
       by (Policy Watched i) (Policy Enforced j) Formula p q r = unfit (rw (p, q, r) at e)
       by (Policy Watched i) (Policy Enforced j) (Policy m l) p q r = (
         record { before = h .0; mode = Watched; bound = i; is = p },
@@ -130,27 +135,3 @@ module _ (types : ℕ → NodeType) (n : ℕ) where
   parts-fit (Fulfilling k a b c) h e = three k a b c h e
   parts-fit (Ignoring a b) h e =
       let f = formula a (h .0) _ e in (f .0, one (λ s. found (typeIgnoring s)) refl b (h .1) (f .1))
-
--- the type of a node is made of its parts' types alone
-module _ (n : ℕ) (f g : ℕ → NodeType) (same : (i : ℕ) → i < n → f i ≡ g i) where
-  pub type-local : (node : Node) → PartsBelow n node → typeNode node f ≡ typeNode node g
-  type-local True p = refl
-  type-local False p = refl
-  type-local (Proposition k) p = refl
-  type-local (Negation a) p = rw (same a p)
-  type-local (Conjunction a b) p = rw (same a (p .0), same b (p .1))
-  type-local (Disjunction a b) p = rw (same a (p .0), same b (p .1))
-  type-local (Now a) p = rw (same a p)
-  type-local (Holds a) p = rw (same a p)
-  type-local (Count k) p = refl
-  type-local (Not a) p = rw (same a p)
-  type-local (And a b) p = rw (same a (p .0), same b (p .1))
-  type-local (Or a b) p = rw (same a (p .0), same b (p .1))
-  type-local (Eventually a) p = rw (same a p)
-  type-local (Always a) p = rw (same a p)
-  type-local (BeforeMinus a b) p = rw (same a (p .0), same b (p .1))
-  type-local (BeforePlus a b) p = rw (same a (p .0), same b (p .1))
-  type-local (AfterMinus a b) p = rw (same a (p .0), same b (p .1))
-  type-local (AfterPlus a b) p = rw (same a (p .0), same b (p .1))
-  type-local (Fulfilling k a b c) p = rw (same a (p .0), same b (p .1), same c (p .2))
-  type-local (Ignoring a b) p = rw (same a (p .0), same b (p .1))

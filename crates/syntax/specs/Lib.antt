@@ -3,4 +3,3 @@ pub mod Faults
 pub mod Formed
 pub mod Types
 pub mod Meaning
-pub mod Typed

@@ -15,22 +15,24 @@ use Rattle.policy.specs.Typing.{onMode, ifWatched, ifEnforced, alikeTyped, type
 use Rattle.syntax.specs.declared.Node.{Node}
 use Rattle.syntax.specs.declared.Node.the-variants.{True, False, Proposition, Negation, Conjunction, Disjunction, Now, Holds, Count, Not, And, Or, Eventually, Always, BeforeMinus, BeforePlus, AfterMinus, AfterPlus, Fulfilling, Ignoring}
 use Rattle.syntax.specs.declared.NodeType.{NodeType}
-use Rattle.syntax.specs.declared.NodeType.the-variants.{Formula, Policy}
+use Rattle.syntax.specs.declared.NodeType.the-variants.{Unused, Formula, Policy}
 use Rattle.syntax.specs.declared.TypedNode.{TypedNode}
 use Rattle.syntax.specs.declared.TypeFound.{TypeFound}
 use Rattle.syntax.specs.declared.TypeFound.the-variants.{Fits, Unfit, TooLong}
 
 -- The type of node i among those before.
 abbrev pub typeAt : List TypedNode → ℕ → NodeType
-typeAt types i = getD types i (record { of = Formula }) .of
+typeAt types i = getD types i (record { of = Unused }) .of
 
--- A part that has to be a policy has its type; a formula has none.
+-- A part that has to be a policy has its type; any other has none.
 abbrev pub typingOf : NodeType → Typing
+typingOf Unused = untyped
 typingOf Formula = untyped
 typingOf (Policy m k) = typed m k
 
 -- A part that has to be an action formula.
 abbrev pub ifFormula : NodeType → TypeFound → TypeFound
+ifFormula Unused found = Unfit
 ifFormula Formula found = found
 ifFormula (Policy m k) found = Unfit
 

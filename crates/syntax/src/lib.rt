@@ -5,13 +5,11 @@ use trace::Mode;
 
 mod faults;
 mod types;
-mod typing;
 
 pub use faults::fault_number;
 pub use faults::fault_spot;
 pub use types::type_at;
 pub use types::type_node;
-pub use typing::type_nodes;
 
 // A node: an action formula (kinds 1 to 6) or a policy (kinds 10 to 23), over the numbers of its parts.
 pub enum Node {
@@ -50,8 +48,9 @@ pub struct Sheet {
     pub nodes: [ListedNode; 64],
 }
 
-// The type of a node.
+// The type of a node. A node that the policy does not use is not typed.
 pub enum NodeType {
+    Unused,
     Formula,
     Policy(Mode, Bound),
 }

@@ -19,7 +19,7 @@ pub fn type_at(types: [TypedNode; 64], i: usize) -> NodeType
         let t = types[i];
         t.of
     } else {
-        NodeType::Formula
+        NodeType::Unused
     }
 }
 
@@ -28,6 +28,7 @@ fn part_at(types: [TypedNode; 64], i: u8) -> Typing
     ensures { λ r. ⌜ r ≡ typingOf (typeAt types i) ⌝ }
 {
     match type_at(types, i as usize) {
+        NodeType::Unused => Typing::Untyped,
         NodeType::Formula => Typing::Untyped,
         NodeType::Policy(m, k) => Typing::Typed(m, k),
     }
@@ -38,6 +39,7 @@ fn if_formula(types: [TypedNode; 64], i: u8, found: TypeFound) -> TypeFound
     ensures { λ r. ⌜ r ≡ ifFormula (typeAt types i) found ⌝ }
 {
     match type_at(types, i as usize) {
+        NodeType::Unused => TypeFound::Unfit,
         NodeType::Formula => found,
         NodeType::Policy(_, _) => TypeFound::Unfit,
     }

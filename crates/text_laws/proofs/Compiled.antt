@@ -12,7 +12,7 @@ use Rattle.trace.specs.declared.Mode.{Mode}
 use Rattle.policy.specs.Policy.{Policy, satisfies}
 use Rattle.table.specs.Table.{typeOf, actionsOf, verdict}
 use Rattle.table.specs.Answer.{accepted, refused, modeNumber}
-use Rattle.syntax.specs.Typed.{faulty, sound}
+use Rattle.typing.specs.Typed.{faulty, sound}
 use Rattle.syntax.specs.Faults.{numberOf}
 use Rattle.syntax.specs.declared.Fault.{Fault}
 use Rattle.syntax.specs.declared.Sheet.{Sheet}

@@ -9,7 +9,7 @@ use native.Mathlib.Decide.{decLt}
 use native.Mathlib.Omega.{arith}
 use lib.ListN.{take}
 use Rattle.trace.specs.declared.Mode.{Mode}
-use Rattle.syntax.specs.Typed.{Judgement, faulty, sound, judgeSheet}
+use Rattle.typing.specs.Typed.{Judgement, faulty, sound, judgeSheet}
 use Rattle.syntax.specs.declared.Fault.{Fault}
 use Rattle.syntax.specs.declared.Fault.the-variants.{WrongTypeAt, BoundAt}
 use Rattle.syntax.specs.declared.Sheet.{Sheet}
@@ -18,7 +18,7 @@ use Rattle.sheet.specs.ReadFrom.{ReadFrom}
 use Rattle.sheet.specs.Judge.{judge}
 use Rattle.sheet.specs.Reading.{readNodes, readActions}
 use Rattle.sheet.specs.declared.NodesRead.{NodesRead}
-use Rattle.sheet.proofs.ReadFrom.{formed-from, actions-from, nodes-from}
+use Rattle.sheet.proofs.ReadFrom.{actions-from, nodes-from}
 use Rattle.grammar.specs.Words.{wordsOf}
 use Rattle.grammar.specs.Grammar.{Rule, Reads}
 use Rattle.grammar.specs.Sheets.{sheetFor}
@@ -129,7 +129,7 @@ module _ {text actions out out′ : List ℕ} {bytes count nodes : ℕ} (call : 
     text-refused-6-at {n} = (from outcome, to outcome)
       where
         outcome : Waited sheet
-        outcome = first-wait actions read small (formed-from (take bytes out′) reads)
+        outcome = first-wait actions read small
 
         from : Waited sheet → judge (take bytes out′) ≡ faulty (WrongTypeAt n) → FirstWrongWait sheet n
         from (none wrong) e = let w = text-only-6 e in absurd (wrong (w .n) (w .listed) (w .wait))

@@ -8,7 +8,7 @@ use lib.ListN.{length, getD}
 use Rattle.policy.specs.Policy.{Policy, satisfies}
 use Rattle.syntax.specs.Nodes.{propositionsOf}
 use Rattle.syntax.specs.Meaning.{sheetPolicy}
-use Rattle.syntax.specs.Typed.{judgeSheet}
+use Rattle.typing.specs.Typed.{judgeSheet}
 use Rattle.syntax.specs.declared.Sheet.{Sheet}
 use Rattle.sheet.specs.ReadFrom.{ReadFrom}
 use Rattle.sheet.specs.Judge.{judge}

@@ -1,18 +1,25 @@
--- Each node of a reading is formed: its parts have numbers below its own, and its argument is in its range.
+-- Each node of a reading is formed: its parts have numbers below its own, and its argument is in its range. So the sheet of a text is formed.
 -- Assumes nothing.
+use mathlib.Core.Path.{subst}
 use mathlib.Core.List.{List, [], _∷_}
-use Prim.Native.Nat.{ℕ, _+_, _-_, _<_}
+use Prim.Native.Nat.{ℕ, _+_, _-_, _≤_, _<_}
+use native.Mathlib.Nat.{zero-add}
 use native.Mathlib.Omega.{arith}
-use lib.ListN.{length}
-use Rattle.syntax.specs.Formed.{PartsBelow, ArgumentFits}
+use lib.ListN.{length, getD}
+use Rattle.syntax.specs.Nodes.{nodeOf}
+use Rattle.syntax.specs.Formed.{PartsBelow, ArgumentFits, Formed}
 use Rattle.syntax.specs.declared.Node.{Node}
-use Rattle.syntax.specs.declared.Node.the-variants.{Negation, Conjunction, Disjunction, Now, Holds, Not, And, Or, Eventually, Always, BeforeMinus, BeforePlus, AfterMinus, AfterPlus, Fulfilling, Ignoring}
+use Rattle.syntax.specs.declared.Node.the-variants.{True, Negation, Conjunction, Disjunction, Now, Holds, Not, And, Or, Eventually, Always, BeforeMinus, BeforePlus, AfterMinus, AfterPlus, Fulfilling, Ignoring}
 use Rattle.grammar.specs.Words.{Word}
-use Rattle.grammar.specs.Grammar.{Reading, Reads, watch, enforce, now-w, count-w, not-w, and-w, or-w, eventually-w, before-w, after-w, ignoring-w, holds-e, not-e, and-e, or-e, always-e, before-e, after-e, fulfilling-e, ignoring-e, true-a, false-a, proposition-a, not-a, and-a, or-a, number}
-use Rattle.grammar.specs.Nodes.{overOne, overTwo, overThree, nodesOf}
+use Rattle.grammar.specs.Grammar.{Rule, Reading, Reads, watch, enforce, now-w, count-w, not-w, and-w, or-w, eventually-w, before-w, after-w, ignoring-w, holds-e, not-e, and-e, or-e, always-e, before-e, after-e, fulfilling-e, ignoring-e, true-a, false-a, proposition-a, not-a, and-a, or-a, number}
+use Rattle.grammar.specs.Nodes.{overOne, overTwo, overThree, policyNodes, nodesOf}
+use Rattle.grammar.specs.Sheets.{sheetFor}
 use Rattle.grammar.specs.declared.Category.{Category}
-use Rattle.text_sheets.proofs.Each.{Each, joined}
-use Rattle.grammar.proofs.Sizes.{HasNodes, some-node}
+use Rattle.grammar.specs.declared.Category.the-variants.{Text}
+use Rattle.text_sheets.specs.Setting.{Small}
+use Rattle.text_sheets.proofs.Each.{Each, joined, each-at}
+use Rattle.text_sheets.proofs.Padded.{node-listed}
+use Rattle.grammar.proofs.Sizes.{HasNodes, some-node, some-policy}
 
 -- What check 5 asks of node n.
 abbrev pub Fitting : ℕ → Node → Type 0
@@ -88,3 +95,21 @@ formed-nodes (not-a r) n = one n r tt (formed-nodes r n) Negation (λ i m h. (h,
 formed-nodes (and-a r s) n = two n r tt (formed-nodes r n) s tt (formed-nodes s _) Conjunction (λ i j m g h. ((g, h), tt))
 formed-nodes (or-a r s) n = two n r tt (formed-nodes r n) s tt (formed-nodes s _) Disjunction (λ i j m g h. ((g, h), tt))
 formed-nodes (number low high) n = tt
+
+module _ (actions : List ℕ) {ws : List Word} {rule : Rule} (reads : Reads Text ws rule) (small : Small (rule .policy)) where
+  fitting : (n : ℕ) → n < length (policyNodes 0 (rule .policy)) → Fitting n (nodeOf (sheetFor actions (rule .policy)) n)
+  fitting n h =
+      rw (node-listed actions (rule .policy) n)
+      (subst (λ (i : ℕ). Fitting i (getD (policyNodes 0 (rule .policy)) n True)) (zero-add n) (each-at Fitting 0 (policyNodes 0 (rule .policy)) (formed-nodes reads 0) n h))
+
+  -- The sheet of a text passes checks 2 and 5.
+  pub text-formed : 1 ≤ length actions → length actions ≤ 16 → Formed (sheetFor actions (rule .policy))
+  text-formed some few =
+      record {
+        some-action = some;
+        few-actions = few;
+        some-node = some-policy 0 (rule .policy);
+        few-nodes = small;
+        parts = λ n h. fitting n h .0;
+        arguments = λ n h. fitting n h .1;
+      }

@@ -3,6 +3,7 @@ pub mod Padded
 pub mod FormedNodes
 pub mod Writable
 pub mod Meanings
+pub mod AllUsed
 pub mod Bounds
 pub mod Blocks
 pub mod Wholes

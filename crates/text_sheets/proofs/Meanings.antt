@@ -13,7 +13,7 @@ use Rattle.syntax.specs.Meaning.{Meaning, formula, policy, meaningOf, meanings,
 use Rattle.syntax.specs.declared.Node.{Node}
 use Rattle.syntax.specs.declared.Node.the-variants.{Negation, Conjunction, Disjunction, Now, Holds, Not, And, Or, Eventually, Always, BeforeMinus, BeforePlus, AfterMinus, AfterPlus, Fulfilling, Ignoring}
 use Rattle.syntax.specs.declared.Sheet.{Sheet}
-use Rattle.syntax.proofs.Meanings.{nodeMeaning, meaning-of, meaning-stays}
+use Rattle.typing.proofs.Meanings.{nodeMeaning, meaning-of, meaning-stays}
 use Rattle.grammar.specs.Nodes.{overOne, overTwo, overThree, formulaNodes, policyNodes}
 use Rattle.text_sheets.proofs.Each.{Each, front, back}
 use Rattle.grammar.specs.Sheets.{sheetFor}

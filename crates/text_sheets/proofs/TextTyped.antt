@@ -12,13 +12,14 @@ use Rattle.policy.specs.Typing.{typeOf}
 use Rattle.policy.specs.declared.Bound.{Bound}
 use Rattle.policy.specs.declared.Typing.the-variants.{Typed}
 use Rattle.syntax.specs.Types.{typeAt}
-use Rattle.syntax.specs.Typed.{typed, noTypes, typeNodes, faulty, sound, judgeSheet}
+use Rattle.typing.specs.Typed.{typed, noTypes, typeNodes, faulty, sound, judgeSheet}
 use Rattle.syntax.specs.declared.Fault.{Fault}
 use Rattle.syntax.specs.declared.Fault.the-variants.{WrongTypeAt, BoundAt}
 use Rattle.syntax.specs.declared.Sheet.{Sheet}
 use Rattle.syntax.specs.declared.TypedNode.{TypedNode}
 use Rattle.syntax.specs.declared.TypeFound.the-variants.{Unfit}
-use Rattle.syntax.proofs.Typings.{fault-at}
+use Rattle.reached.specs.Parts.{usedSet}
+use Rattle.typing.proofs.Typings.{fault-at}
 use Rattle.grammar.specs.Words.{Word}
 use Rattle.grammar.specs.Grammar.{Rule, Reads}
 use Rattle.grammar.specs.Nodes.{policyNodes}
@@ -27,8 +28,9 @@ use Rattle.grammar.specs.declared.Category.the-variants.{Text}
 use Rattle.text_sheets.specs.Setting.{Small}
 use Rattle.text_sheets.specs.Waits.{WaitsRight, AtWrongWait, AtMost, WellTyped}
 use Rattle.text_sheets.proofs.Padded.{nodes-listed}
+use Rattle.text_sheets.proofs.AllUsed.{text-in-use}
 use Rattle.text_sheets.proofs.Bounds.{IsPolicy}
-use Rattle.text_sheets.proofs.Blocks.{Outcome}
+use Rattle.text_sheets.proofs.Blocks.{NoSpare, Outcome}
 use Rattle.text_sheets.proofs.TypedNodes.{typing}
 use Rattle.text_sheets.proofs.TypedWaits.{typed-waits}
 
@@ -52,8 +54,11 @@ module _ (actions : List ℕ) {ws : List Word} {rule : Rule} (reads : Reads Text
   abbrev size : ℕ
   size = length (policyNodes 0 (rule .policy))
 
+  pub no-spare : NoSpare sheet
+  no-spare = record { few = small; in-use = text-in-use actions reads small }
+
   verdict : Passes rule sheet ⊎ Fails rule sheet
-  verdict = by (typing sheet reads 0 (nodes-listed actions (rule .policy)) (omega arith) noTypes (record { all = refl; sized = refl }))
+  verdict = by (typing sheet no-spare reads 0 (nodes-listed actions (rule .policy)) (omega arith) noTypes (record { all = refl; sized = refl; waits = λ i h. absurd (omega arith) }))
     where
       none : 0 + size ≡ size
       none = zero-add size
@@ -61,7 +66,7 @@ module _ (actions : List ℕ) {ws : List Word} {rule : Rule} (reads : Reads Text
       by : Outcome sheet 0 (policyNodes 0 (rule .policy)) (WaitsRight (rule .policy)) (IsPolicy (rule .mode) (rule .policy) size) noTypes
           → Passes rule sheet ⊎ Fails rule sheet
       by (inl f) =
-          let all : typeNodes (sheet .nodes) size ≡ typed (f .after) = rw none at (f .typed .all) in
+          let all : typeNodes (usedSet sheet) (sheet .nodes) size ≡ typed (f .after) = rw none at (f .typed .all) in
           let has : IsPolicy (rule .mode) (rule .policy) size (typeAt (f .after) (size - 1)) = rw none at (f .has) in
           inl
           (record {
@@ -75,7 +80,9 @@ module _ (actions : List ℕ) {ws : List Word} {rule : Rule} (reads : Reads Text
           inr
           (record {
             fault = WrongTypeAt (s .n);
-            judged = rw (fault-at (sheet .nodes) (s .n) (s .types) (s .before) Unfit (sym (s .unfit)) size (WrongTypeAt (s .n)) below refl);
+            judged =
+                rw (fault-at (usedSet sheet) (sheet .nodes) (s .n) (s .types) (s .before .all) (no-spare .in-use (s .n) below) Unfit (sym (s .unfit)) size
+                (WrongTypeAt (s .n)) below refl);
             at = record { n = s .n; listed = below; six = refl; wait = s .wait };
             wrong = s .wrong;
           })

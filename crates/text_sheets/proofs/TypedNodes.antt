@@ -18,12 +18,13 @@ use Rattle.syntax.specs.declared.NodeType.the-variants.{Formula}
 use Rattle.syntax.specs.declared.Sheet.{Sheet}
 use Rattle.syntax.specs.declared.TypeFound.{TypeFound}
 use Rattle.syntax.specs.declared.TypeFound.the-variants.{Fits}
+use Rattle.reached.specs.Parts.{partsOf}
 use Rattle.grammar.specs.Words.{Word}
 use Rattle.grammar.specs.Grammar.{Reading, Reads, watch, enforce, now-w, count-w, not-w, and-w, or-w, eventually-w, before-w, after-w, ignoring-w, holds-e, not-e, and-e, or-e, always-e, before-e, after-e, fulfilling-e, ignoring-e, true-a, false-a, proposition-a, not-a, and-a, or-a, number}
 use Rattle.grammar.specs.declared.Category.{Category}
 use Rattle.text_sheets.proofs.Meanings.{Stand, policy-means}
 use Rattle.text_sheets.proofs.Bounds.{Found, found-policy, over-one, over-two, low-more, low-larger, low-plus}
-use Rattle.text_sheets.proofs.Blocks.{Runs, last}
+use Rattle.text_sheets.proofs.Blocks.{Fewer, no-wait, NoSpare, Runs, last}
 use Rattle.text_sheets.proofs.Wholes.{TypedAt, one, two, pair, three}
 use Rattle.text_sheets.proofs.Waited.{waited}
 
@@ -34,13 +35,13 @@ a-formula x e = record { type = Formula; fits = e; has = refl }
 over-formula : {H : NodeType → Type 0} (t : NodeType) (x : TypeFound) → t ≡ Formula → Found H x → Found H (ifFormula t x)
 over-formula t x e f = record { type = f .type; fits = rw e (f .fits); has = f .has }
 
-module _ (sheet : Sheet) where
-  leaf : (n : ℕ) (w : Node) {R : Type 0} {H : NodeType → Type 0} → R → ((types : ℕ → NodeType) → Found H (typeNode w types)) → Stand sheet n (w ∷ []) → n + 1 ≤ 64
+module _ (sheet : Sheet) (all : NoSpare sheet) where
+  leaf : (n : ℕ) (w : Node) {R : Type 0} {H : NodeType → Type 0} → Fewer (partsOf w) → R → ((types : ℕ → NodeType) → Found H (typeNode w types)) → Stand sheet n (w ∷ []) → n + 1 ≤ sheet .count
       → Runs sheet n (w ∷ []) R H
-  leaf n w r f s small types t = inl (last sheet n w (omega arith) (s .0) t (f _) r)
+  leaf n w fewer r f s small types t = inl (last sheet all n w (omega arith) (s .0) t (no-wait sheet n (s .0) fewer) (f _) r)
 
   -- a number has no node
-  none : (n : ℕ) → Stand sheet n [] → n + 0 ≤ 64 → Runs sheet n [] (Unit {0}) (λ t. Unit {0})
+  none : (n : ℕ) → Stand sheet n [] → n + 0 ≤ sheet .count → Runs sheet n [] (Unit {0}) (λ t. Unit {0})
   none n s small types t =
       let z : n + 0 ≡ n = omega arith in
       inl (record { after = types; typed = rw z t; kept = λ i h. refl; has = tt; right = tt })
@@ -49,59 +50,59 @@ module _ (sheet : Sheet) where
   typing (watch r) n = typing r n
   typing (enforce r) n = typing r n
   typing (now-w r) n =
-      one sheet n r tt (typing r n) Now (λ e s types i a. over-formula (types i) _ a (found-policy _ (finite 1) refl refl s (omega arith)))
+      one sheet all n r tt (typing r n) Now (λ i. tt) (λ e s types i a. over-formula (types i) _ a (found-policy _ (finite 1) refl refl s (omega arith)))
   typing (count-w {k = k} (number low high)) n =
-      leaf n (Count k) tt (λ types. found-policy (typeCount k) (finite k) (rw (le-leb 1 k low)) (rw (le-leb 1 k low)) (omega arith) (omega arith))
-  typing (not-w r) n = one sheet n r tt (typing r n) Not (λ e s types i a. over-one typeNot a refl refl s (low-more (a .bound) _ _ (omega arith) (a .low)))
+      leaf n (Count k) tt tt (λ types. found-policy (typeCount k) (finite k) (rw (le-leb 1 k low)) (rw (le-leb 1 k low)) (omega arith) (omega arith))
+  typing (not-w r) n = one sheet all n r tt (typing r n) Not (λ i. tt) (λ e s types i a. over-one typeNot a refl refl s (low-more (a .bound) _ _ (omega arith) (a .low)))
   typing (and-w r s) n =
-      pair sheet n r tt (typing r n) s tt (typing s _) And
+      pair sheet all n r tt (typing r n) s tt (typing s _) And (λ i j. tt)
       (λ e s types i j a b. over-two alikeTyped a b refl refl s (low-larger (a .bound) (b .bound) _ _ _ (omega arith) (a .low) (b .low)))
   typing (or-w r s) n =
-      pair sheet n r tt (typing r n) s tt (typing s _) Or
+      pair sheet all n r tt (typing r n) s tt (typing s _) Or (λ i j. tt)
       (λ e s types i j a b. over-two alikeTyped a b refl refl s (low-larger (a .bound) (b .bound) _ _ _ (omega arith) (a .low) (b .low)))
-  typing (eventually-w r) n = one sheet n r tt (typing r n) Eventually (λ e s types i a. over-one typeEventually a refl refl s tt)
+  typing (eventually-w r) n = one sheet all n r tt (typing r n) Eventually (λ i. tt) (λ e s types i a. over-one typeEventually a refl refl s tt)
   typing (before-w r s) n =
-      pair sheet n r tt (typing r n) s tt (typing s _) BeforeMinus
+      pair sheet all n r tt (typing r n) s tt (typing s _) BeforeMinus (λ i j. tt)
       (λ e s types i j a b. over-two typeBefore- a b refl refl s (low-more (b .bound) _ _ (omega arith) (b .low)))
   typing (after-w r s) n =
-      pair sheet n r tt (typing r n) s tt (typing s _) AfterMinus
+      pair sheet all n r tt (typing r n) s tt (typing s _) AfterMinus (λ i j. tt)
       (λ e s types i j a b. over-two typeAfter- a b refl refl s (low-plus (a .bound) (b .bound) _ _ _ (omega arith) (a .low) (b .low)))
   typing (ignoring-w r s) n =
-      two sheet n r tt (typing r n) s tt (typing s _) Ignoring (λ w. tt) (λ w. w) (λ v w. w)
+      two sheet all n r tt (typing r n) s tt (typing s _) Ignoring (λ i j. tt) (λ w. tt) (λ w. w) (λ v w. w)
       (λ e s types i j a b. over-formula (types i) _ a (over-one typeIgnoring b refl refl s tt))
   typing (holds-e r) n =
-      one sheet n r tt (typing r n) Holds (λ e s types i a. over-formula (types i) _ a (found-policy _ (finite 1) refl refl s (omega arith)))
-  typing (not-e r) n = one sheet n r tt (typing r n) Not (λ e s types i a. over-one typeNot a refl refl s (low-more (a .bound) _ _ (omega arith) (a .low)))
+      one sheet all n r tt (typing r n) Holds (λ i. tt) (λ e s types i a. over-formula (types i) _ a (found-policy _ (finite 1) refl refl s (omega arith)))
+  typing (not-e r) n = one sheet all n r tt (typing r n) Not (λ i. tt) (λ e s types i a. over-one typeNot a refl refl s (low-more (a .bound) _ _ (omega arith) (a .low)))
   typing (and-e r s) n =
-      pair sheet n r tt (typing r n) s tt (typing s _) And
+      pair sheet all n r tt (typing r n) s tt (typing s _) And (λ i j. tt)
       (λ e s types i j a b. over-two alikeTyped a b refl refl s (low-larger (a .bound) (b .bound) _ _ _ (omega arith) (a .low) (b .low)))
   typing (or-e r s) n =
-      pair sheet n r tt (typing r n) s tt (typing s _) Or
+      pair sheet all n r tt (typing r n) s tt (typing s _) Or (λ i j. tt)
       (λ e s types i j a b. over-two alikeTyped a b refl refl s (low-larger (a .bound) (b .bound) _ _ _ (omega arith) (a .low) (b .low)))
-  typing (always-e r) n = one sheet n r tt (typing r n) Always (λ e s types i a. over-one typeAlways a refl refl s tt)
+  typing (always-e r) n = one sheet all n r tt (typing r n) Always (λ i. tt) (λ e s types i a. over-one typeAlways a refl refl s tt)
   typing (before-e r s) n =
-      pair sheet n r tt (typing r n) s tt (typing s _) BeforePlus
+      pair sheet all n r tt (typing r n) s tt (typing s _) BeforePlus (λ i j. tt)
       (λ e s types i j a b. over-two typeBefore+ a b refl refl s (low-more (b .bound) _ _ (omega arith) (b .low)))
   typing (after-e r s) n =
-      pair sheet n r tt (typing r n) s tt (typing s _) AfterPlus
+      pair sheet all n r tt (typing r n) s tt (typing s _) AfterPlus (λ i j. tt)
       (λ e s types i j a b. over-two typeAfter+ a b refl refl s (low-plus (a .bound) (b .bound) _ _ _ (omega arith) (a .low) (b .low)))
   typing (fulfilling-e {k = k} {a = a} (number low high) r s t) n =
       λ stand small.
-      three sheet n r tt (typing r n) s tt (typing s _) t tt (typing t _) (Fulfilling k) (λ w. w .1) (λ w. w .2) (λ w. w .3)
+      three sheet all n r tt (typing r n) s tt (typing s _) t tt (typing t _) (Fulfilling k) (λ w. w .1) (λ w. w .2) (λ w. w .3)
       (λ e first is types t A B C.
-      waited sheet _ k _ _ _ high (omega arith) is t (ap asPolicy (policy-means sheet n a first)) A B C _ (omega arith) e)
+      waited sheet all _ k _ _ _ high (omega arith) is t (ap asPolicy (policy-means sheet n a first)) A B C _ (omega (arith, all .few)) e)
       stand small
   typing (ignoring-e r s) n =
-      two sheet n r tt (typing r n) s tt (typing s _) Ignoring (λ w. tt) (λ w. w) (λ v w. w)
+      two sheet all n r tt (typing r n) s tt (typing s _) Ignoring (λ i j. tt) (λ w. tt) (λ w. w) (λ v w. w)
       (λ e s types i j a b. over-formula (types i) _ a (over-one typeIgnoring b refl refl s tt))
-  typing true-a n = leaf n True tt (λ types. a-formula _ refl)
-  typing false-a n = leaf n False tt (λ types. a-formula _ refl)
-  typing (proposition-a {p = p} h) n = leaf n (Proposition p) tt (λ types. a-formula _ refl)
-  typing (not-a r) n = one sheet n r tt (typing r n) Negation (λ e s types i a. over-formula (types i) _ a (a-formula _ refl))
+  typing true-a n = leaf n True tt tt (λ types. a-formula _ refl)
+  typing false-a n = leaf n False tt tt (λ types. a-formula _ refl)
+  typing (proposition-a {p = p} h) n = leaf n (Proposition p) tt tt (λ types. a-formula _ refl)
+  typing (not-a r) n = one sheet all n r tt (typing r n) Negation (λ i. tt) (λ e s types i a. over-formula (types i) _ a (a-formula _ refl))
   typing (and-a r s) n =
-      two sheet n r tt (typing r n) s tt (typing s _) Conjunction (λ w. w) (λ w. w) (λ v w. w)
+      two sheet all n r tt (typing r n) s tt (typing s _) Conjunction (λ i j. tt) (λ w. w) (λ w. w) (λ v w. w)
       (λ e s types i j a b. over-formula (types i) _ a (over-formula (types j) _ b (a-formula _ refl)))
   typing (or-a r s) n =
-      two sheet n r tt (typing r n) s tt (typing s _) Disjunction (λ w. w) (λ w. w) (λ v w. w)
+      two sheet all n r tt (typing r n) s tt (typing s _) Disjunction (λ i j. tt) (λ w. w) (λ w. w) (λ v w. w)
       (λ e s types i j a b. over-formula (types i) _ a (over-formula (types j) _ b (a-formula _ refl)))
   typing (number low high) n = none n

@@ -18,18 +18,28 @@ use Rattle.syntax.specs.Meaning.{nodePolicy}
 use Rattle.syntax.specs.declared.Node.the-variants.{Fulfilling}
 use Rattle.syntax.specs.declared.Sheet.{Sheet}
 use Rattle.syntax.specs.declared.TypedNode.{TypedNode}
-use Rattle.text_sheets.specs.Waits.{WaitsRight}
+use Rattle.text_sheets.specs.Waits.{WaitsRight, WrongWait}
 use Rattle.text_sheets.proofs.Bounds.{IsPolicy, found-policy, low-larger, low-plus, exactly-true, exactly-false}
-use Rattle.text_sheets.proofs.Blocks.{Typed, Outcome, last}
+use Rattle.text_sheets.proofs.Blocks.{NoSpare, Typed, Outcome, last}
 
-module _ (sheet : Sheet) (m k i j l : ℕ) (high : k ≤ 60) (room : m < 64) (is : nodeOf sheet m ≡ Fulfilling k i j l) {types : List TypedNode}
-    (t : Typed sheet m types) {a b c : Policy} (means : nodePolicy sheet i ≡ a) {x y z : ℕ} (A : IsPolicy watched a x (typeAt types i))
+module _ (sheet : Sheet) (all : NoSpare sheet) (m k i j l : ℕ) (high : k ≤ 60) (room : m < sheet .count) (is : nodeOf sheet m ≡ Fulfilling k i j l)
+    {types : List TypedNode} (t : Typed sheet m types) {a b c : Policy} (means : nodePolicy sheet i ≡ a) {x y z : ℕ} (A : IsPolicy watched a x (typeAt types i))
     (B : IsPolicy enforced b y (typeAt types j)) (C : IsPolicy enforced c z (typeAt types l)) where
   abbrev whole : Policy
   whole = fulfilling k a b c
 
   abbrev bound : Bound
   bound = plus (finite k) (larger (B .bound) (C .bound))
+
+  -- where its k is the first part's bound it is no wrong wait
+  right-wait : exactly (A .bound) k ≡ true → WrongWait sheet m → ⊥
+  right-wait e w =
+      let n = w .node in
+      let same : w .a ≡ i = cc in
+      let f = w .first in
+      let t = ap (λ (x : ℕ). typeOf (nodePolicy sheet x)) same ∙ ap typeOf means ∙ A .type in
+      let x = exactly-true (A .bound) k e in
+      w .other (cc)
 
   pub waited : (size : ℕ) → size ≤ 64 → size ≡ x + y + z + 1 → WaitsRight a → WaitsRight b → WaitsRight c
       → Outcome sheet m (Fulfilling k i j l ∷ []) (WaitsRight whole) (IsPolicy enforced whole size) types
@@ -38,7 +48,7 @@ module _ (sheet : Sheet) (m k i j l : ℕ) (high : k ≤ 60) (room : m < 64) (is
       by : (q : Bool) → exactly (A .bound) k ≡ q → Outcome sheet m (Fulfilling k i j l ∷ []) (WaitsRight whole) (IsPolicy enforced whole size) types
       by true e =
           inl
-          (last sheet m (Fulfilling k i j l) room is t
+          (last sheet all m (Fulfilling k i j l) room is t (right-wait e)
           (found-policy (typeFulfilling k (typingOf (typeAt types i)) (typingOf (typeAt types j)) (typingOf (typeAt types l))) bound
           (rw (A .is, B .is, C .is, e)) (rw (A .type, B .type, C .type, e)) small
           (low-plus (finite k) (larger (B .bound) (C .bound)) 60 (60 * (y + z)) (60 * size) (omega arith) high
@@ -50,7 +60,7 @@ module _ (sheet : Sheet) (m k i j l : ℕ) (high : k ≤ 60) (room : m < 64) (is
             n = m;
             below = omega arith;
             types = types;
-            before = t .all;
+            before = t;
             wait = record { k = k; a = i; b = j; c = l; node = is; bound = A .bound; first = ap typeOf means ∙ A .type; other = exactly-false (A .bound) k e };
             unfit = rw (is, A .is, B .is, C .is, e);
             wrong = λ r. let f = r .0 in let d = A .type in exactly-false (A .bound) k e (cc);

@@ -14,6 +14,7 @@ use Rattle.syntax.specs.declared.NodeType.{NodeType}
 use Rattle.syntax.specs.declared.NodeType.the-variants.{Formula as FormulaType}
 use Rattle.syntax.specs.declared.Sheet.{Sheet}
 use Rattle.syntax.specs.declared.TypedNode.{TypedNode}
+use Rattle.reached.specs.Parts.{partsOf}
 use Rattle.grammar.specs.Words.{Word}
 use Rattle.grammar.specs.Grammar.{Reading, Reads}
 use Rattle.grammar.specs.Nodes.{overOne, overTwo, overThree, nodesOf}
@@ -24,7 +25,7 @@ use Rattle.text_sheets.proofs.Each.{front, back}
 use Rattle.grammar.proofs.Sizes.{HasNodes, some-node, length-one, length-two, length-three}
 use Rattle.text_sheets.proofs.Meanings.{Stand}
 use Rattle.text_sheets.proofs.Bounds.{IsPolicy, Found}
-use Rattle.text_sheets.proofs.Blocks.{Typed, Fit, Outcome, Runs, last, behind}
+use Rattle.text_sheets.proofs.Blocks.{Fewer, no-wait, NoSpare, Typed, Fit, Outcome, Runs, last, behind}
 
 -- What the last node of a reading of so many nodes has for its type, and what its waits have to be.
 abbrev pub Has : (c : Category) → Reading c → ℕ → NodeType → Type 0
@@ -46,7 +47,7 @@ Right End x = Unit {0}
 -- Where a sheet has the nodes of a reading from n on, they fit, or check 6 comes at a wrong wait among them.
 abbrev pub TypedAt : Sheet → (c : Category) → ℕ → Reading c → Type 0
 TypedAt sheet c n x =
-    Stand sheet n (nodesOf c n x) → n + length (nodesOf c n x) ≤ 64 → Runs sheet n (nodesOf c n x) (Right c x) (Has c x (length (nodesOf c n x)))
+    Stand sheet n (nodesOf c n x) → n + length (nodesOf c n x) ≤ sheet .count → Runs sheet n (nodesOf c n x) (Right c x) (Has c x (length (nodesOf c n x)))
 
 -- the type of a part stays while the nodes behind it are typed
 still : (sheet : Sheet) (n : ℕ) (c : Category) (x : Reading c) → HasNodes c → {types : List TypedNode}
@@ -56,22 +57,23 @@ still sheet n c x h f after kept =
     let s = some-node c h n x in
     subst (Has c x (length (nodesOf c n x))) (sym (kept (n + length (nodesOf c n x) - 1) (omega arith))) (f .has)
 
-module _ (sheet : Sheet) (n : ℕ) {c : Category} {us : List Word} {x : Reading c} (r : Reads c us x) (h : HasNodes c) (p : TypedAt sheet c n x) where
+module _ (sheet : Sheet) (all : NoSpare sheet) (n : ℕ) {c : Category} {us : List Word} {x : Reading c} (r : Reads c us x) (h : HasNodes c) (p : TypedAt sheet c n x) where
   abbrev a : List Node
   a = nodesOf c n x
 
   abbrev n₁ : ℕ
   n₁ = n + length a
 
-  pub one : (whole : ℕ → Node) {H : NodeType → Type 0}
+  pub one : (whole : ℕ → Node) {H : NodeType → Type 0} → ((i : ℕ) → Fewer (partsOf (whole i)))
       → (length (overOne n a whole) ≡ length a + 1 → length (overOne n a whole) ≤ 64 → (types : ℕ → NodeType) (i : ℕ) → Has c x (length a) (types i)
       → Found H (typeNode (whole i) types))
-      → Stand sheet n (overOne n a whole) → n + length (overOne n a whole) ≤ 64 → Runs sheet n (overOne n a whole) (Right c x) H
-  one whole found s small types t =
+      → Stand sheet n (overOne n a whole) → n + length (overOne n a whole) ≤ sheet .count → Runs sheet n (overOne n a whole) (Right c x) H
+  one whole fewer found s small types t =
       let w = whole (n₁ - 1) in
       let e = length-one a w in
       behind sheet n a (w ∷ []) (λ r. r) (p (front _ n a (w ∷ []) s) (omega arith) types t)
-      (λ f. inl (last sheet n₁ w (omega arith) (back _ n a (w ∷ []) s .0) (f .typed) (found e (omega arith) (typeAt (f .after)) (n₁ - 1) (f .has)) (f .right)))
+      (λ f. inl (last sheet all n₁ w (omega arith) (back _ n a (w ∷ []) s .0) (f .typed)
+      (no-wait sheet n₁ (back _ n a (w ∷ []) s .0) (fewer (n₁ - 1))) (found e (omega (arith, all .few)) (typeAt (f .after)) (n₁ - 1) (f .has)) (f .right)))
 
   module _ {d : Category} {vs : List Word} {y : Reading d} (r₁ : Reads d vs y) (h₁ : HasNodes d) (p₁ : TypedAt sheet d n₁ y) where
     abbrev b : List Node
@@ -85,9 +87,9 @@ module _ (sheet : Sheet) (n : ℕ) {c : Category} {us : List Word} {x : Reading 
         length (overTwo n a b whole) ≡ length a + length b + 1 → length (overTwo n a b whole) ≤ 64 → (types : ℕ → NodeType) (i j : ℕ) → Has c x (length a) (types i)
         → Has d y (length b) (types j) → Found H (typeNode (whole i j) types)
 
-    pub two : (whole : ℕ → ℕ → Node) {R : Type 0} {H : NodeType → Type 0} → (R → Right c x) → (R → Right d y) → (Right c x → Right d y → R) → FoundTwo whole H
-        → Stand sheet n (overTwo n a b whole) → n + length (overTwo n a b whole) ≤ 64 → Runs sheet n (overTwo n a b whole) R H
-    two whole first second both found s small types t =
+    pub two : (whole : ℕ → ℕ → Node) {R : Type 0} {H : NodeType → Type 0} → ((i j : ℕ) → Fewer (partsOf (whole i j))) → (R → Right c x) → (R → Right d y) → (Right c x → Right d y → R) → FoundTwo whole H
+        → Stand sheet n (overTwo n a b whole) → n + length (overTwo n a b whole) ≤ sheet .count → Runs sheet n (overTwo n a b whole) R H
+    two whole fewer first second both found s small types t =
         let w = whole (n₁ - 1) (n₂ - 1) in
         let e = length-two a b w in
         let s₁ = back _ n a (b ++ (w ∷ [])) s in
@@ -96,13 +98,14 @@ module _ (sheet : Sheet) (n : ℕ) {c : Category} {us : List Word} {x : Reading 
         behind sheet n₁ b (w ∷ []) second (p₁ (front _ n₁ b (w ∷ []) s₁) (omega arith) (f .after) (f .typed))
         (λ g.
         inl
-        (last sheet n₂ w (omega arith) (back _ n₁ b (w ∷ []) s₁ .0) (g .typed)
-        (found e (omega arith) (typeAt (g .after)) (n₁ - 1) (n₂ - 1) (still sheet n c x h f (g .after) (g .kept)) (g .has)) (both (f .right) (g .right)))))
+        (last sheet all n₂ w (omega arith) (back _ n₁ b (w ∷ []) s₁ .0) (g .typed)
+        (no-wait sheet n₂ (back _ n₁ b (w ∷ []) s₁ .0) (fewer (n₁ - 1) (n₂ - 1)))
+        (found e (omega (arith, all .few)) (typeAt (g .after)) (n₁ - 1) (n₂ - 1) (still sheet n c x h f (g .after) (g .kept)) (g .has)) (both (f .right) (g .right)))))
 
     -- two policies
-    pub pair : (whole : ℕ → ℕ → Node) {H : NodeType → Type 0} → FoundTwo whole H → Stand sheet n (overTwo n a b whole) → n + length (overTwo n a b whole) ≤ 64
+    pub pair : (whole : ℕ → ℕ → Node) {H : NodeType → Type 0} → ((i j : ℕ) → Fewer (partsOf (whole i j))) → FoundTwo whole H → Stand sheet n (overTwo n a b whole) → n + length (overTwo n a b whole) ≤ sheet .count
         → Runs sheet n (overTwo n a b whole) (Right c x × Right d y) H
-    pair whole found = two whole (λ w. w .0) (λ w. w .1) (λ v w. (v, w)) found
+    pair whole fewer found = two whole fewer (λ w. w .0) (λ w. w .1) (λ v w. (v, w)) found
 
     module _ {e : Category} {ws : List Word} {z : Reading e} (r₂ : Reads e ws z) (h₂ : HasNodes e) (p₂ : TypedAt sheet e n₂ z) where
       abbrev v : List Node
@@ -117,7 +120,7 @@ module _ (sheet : Sheet) (n : ℕ) {c : Category} {us : List Word} {x : Reading 
           → (types : List TypedNode) → Typed sheet n₃ types → Has c x (length a) (typeAt types (n₁ - 1)) → Has d y (length b) (typeAt types (n₂ - 1))
           → Has e z (length v) (typeAt types (n₃ - 1)) → Right c x → Right d y → Right e z
           → Outcome sheet n₃ (whole (n₁ - 1) (n₂ - 1) (n₃ - 1) ∷ []) R H types)
-          → Stand sheet n (overThree n a b v whole) → n + length (overThree n a b v whole) ≤ 64 → Runs sheet n (overThree n a b v whole) R H
+          → Stand sheet n (overThree n a b v whole) → n + length (overThree n a b v whole) ≤ sheet .count → Runs sheet n (overThree n a b v whole) R H
       three whole first second third found s small types t =
           let w = whole (n₁ - 1) (n₂ - 1) (n₃ - 1) in
           let l = length-three a b v w in

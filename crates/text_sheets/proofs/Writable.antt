@@ -1,12 +1,10 @@
 -- The sheet of a rule text passes checks 1 to 5: it is formed, its bytes hold it, and they are judged as it is.
 -- Assumes nothing.
-use mathlib.Core.Path.{_≡_, subst, _∙_}
+use mathlib.Core.Path.{_≡_, _∙_}
 use mathlib.Core.List.{List}
-use Prim.Native.Nat.{ℕ, _<_}
-use native.Mathlib.Nat.{zero-add}
-use lib.ListN.{length, getD, List·getD-eq-default}
-use Rattle.syntax.specs.Nodes.{nodeOf}
-use Rattle.syntax.specs.Typed.{judgeSheet}
+use Prim.Native.Nat.{ℕ}
+use lib.ListN.{List·getD-eq-default}
+use Rattle.typing.specs.Typed.{judgeSheet}
 use Rattle.syntax.specs.declared.Node.the-variants.{True}
 use Rattle.sheet.specs.ReadFrom.{ReadFrom}
 use Rattle.sheet.specs.Judge.{judge}
@@ -18,30 +16,15 @@ use Rattle.grammar.specs.Nodes.{policyNodes}
 use Rattle.grammar.specs.Sheets.{sheetFor}
 use Rattle.grammar.specs.declared.Category.the-variants.{Text}
 use Rattle.text_sheets.specs.Setting.{Listed, Small}
-use Rattle.text_sheets.proofs.Each.{each-at}
-use Rattle.grammar.proofs.Sizes.{some-policy}
 use Rattle.text_sheets.proofs.Padded.{length-padded, text-propositions, node-listed, sixty-four}
-use Rattle.text_sheets.proofs.FormedNodes.{Fitting, formed-nodes}
+use Rattle.text_sheets.proofs.FormedNodes.{text-formed}
 
 module _ (actions : List ℕ) (listed : Listed actions) {ws : List Word} {rule : Rule} (reads : Reads Text ws rule) (small : Small (rule .policy)) where
-  fitting : (n : ℕ) → n < length (policyNodes 0 (rule .policy)) → Fitting n (nodeOf (sheetFor actions (rule .policy)) n)
-  fitting n h =
-      rw (node-listed actions (rule .policy) n)
-      (subst (λ (i : ℕ). Fitting i (getD (policyNodes 0 (rule .policy)) n True)) (zero-add n) (each-at Fitting 0 (policyNodes 0 (rule .policy)) (formed-nodes reads 0) n h))
-
   -- The sheet is as reading gives it.
   pub text-writable : Writable (sheetFor actions (rule .policy))
   text-writable =
       record {
-        formed =
-            record {
-              some-action = listed .some-action;
-              few-actions = listed .few-actions;
-              some-node = some-policy 0 (rule .policy);
-              few-nodes = small;
-              parts = λ n h. fitting n h .0;
-              arguments = λ n h. fitting n h .1;
-            };
+        formed = text-formed actions reads small (listed .some-action) (listed .few-actions);
         narrow = λ a h. rw (text-propositions actions (rule .policy) a) (listed .narrow a h);
         behind =
             record {

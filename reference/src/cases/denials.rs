@@ -223,9 +223,26 @@ fn other_kinds() -> Vec<DenialCase> {
     ]
 }
 
-/// Nodes that the policy does not use are not named.
+/// Nodes that the policy does not use are not named, and neither typed nor built. The others keep their numbers.
 fn unused() -> Vec<DenialCase> {
+    // Nodes 0 to 3: Count 60, an ill-typed Always, 120 rows, and an And of these. No charge is node 7, no drop 11.
+    let left = [count(60), [17, 0, 0, 0, 0], [20, 0, 0, 0, 0], and(1, 2)];
+    let behind = |name, more: &[Fields], rest: &[u8], stated| {
+        let shifted = both(&[]).into_iter().map(|[kind, argument, a, b, c]| match kind {
+            3 => [kind, argument, a, b, c],
+            _ => [kind, argument, a + 4, b, c],
+        });
+        of(name, &left.into_iter().chain(shifted).chain(more.to_vec()).collect::<Vec<_>>(), rest, stated)
+    };
     vec![
+        behind("unused nodes in front: a charge", &[and(7, 11)], &[2, 0], Denied(1, 7)),
+        behind("unused nodes in front: a drop", &[and(7, 11)], &[2, 1], Denied(1, 11)),
+        behind("unused nodes in front: permitted", &[and(7, 11)], &[2, 3], Permitted),
+        behind("unused nodes in front: no action", &[and(7, 11)], &[2, 4], Refused(12, 0)),
+        behind("an unused And between", &[and(7, 1), and(11, 11)], &[0, 1], Denied(1, 11)),
+        behind("an ill-typed part of And", &[and(7, 1)], &[0], Refused(6, 1)),
+        behind("a part of 120 rows", &[not(2), and(7, 12)], &[0], Refused(9, 2)),
+        of("9 of a node that is not used", &[count(60), count(5), [20, 0, 0, 1, 0], not(0)], &[0], Permitted),
         of("a lower node that is not used", &both(&[]), &[0, 1], Denied(1, 7)),
         of("an And that is not used", &both(&[and(3, 7), count(2), not(9)]), &[0, 1], Denied(1, 10)),
         of("And over some of the nodes", &both(&[and(3, 7), count(2), not(9), and(7, 10)]), &[0, 2], Denied(1, 10)),
@@ -294,10 +311,19 @@ fn order() -> Vec<DenialCase> {
         of("watched, And", &[count(2), count(3), and(0, 1)], &[0, 1, 2], Refused(34, 0)),
         of("4 before 34 and 12", &[[7, 0, 0, 0, 0], count(2)], &[9], Refused(4, 0)),
         of("5 before 12", &[count(61), not(0)], &[9], Refused(5, 0)),
-        of("6 before 34", &[count(2), [17, 0, 0, 0, 0], count(2)], &[0], Refused(6, 1)),
+        of("6 before 34", &[count(2), [17, 0, 0, 0, 0], not(1)], &[0], Refused(6, 1)),
+        of("5 of a later node before 6", &[count(2), [17, 0, 0, 0, 0], [13, 0, 1, 1, 0]], &[0], Refused(5, 2)),
         of("9 before 34", &[count(60), count(5), [20, 0, 0, 1, 0]], &[0], Refused(9, 2)),
         of("9 before 12", &[count(60), count(5), [20, 0, 0, 1, 0], not(2)], &[9], Refused(9, 2)),
-        of("9 of a node that is not used", &[count(60), count(5), [20, 0, 0, 1, 0], not(0)], &[0], Refused(9, 2)),
+        of("4 of a node that is not used before 34", &[[99, 0, 0, 0, 0], count(2)], &[9], Refused(4, 0)),
+        of("5 of a node that is not used before 12", &[count(61), count(2), not(1)], &[9], Refused(5, 0)),
+        of("34 beside 6 of a node that is not used", &[count(2), [17, 0, 0, 0, 0], count(2)], &[0], Refused(34, 0)),
+        of(
+            "12 beside 9 of a node that is not used",
+            &[count(60), count(5), [20, 0, 0, 1, 0], not(0)],
+            &[4],
+            Refused(12, 0),
+        ),
         case("1 before 12", vec![0; 9], &[9], Refused(1, 0)),
         case("no sheet and no list", vec![], &[], Refused(1, 0)),
     ]

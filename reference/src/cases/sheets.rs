@@ -63,12 +63,15 @@ fn values() -> Vec<Case> {
     ]
 }
 
-/// Refusal 9 at a node that the policy does not use.
+/// 64 and 65 rows of a node that the policy uses, and of one that it does not use.
 fn rows() -> Vec<Case> {
-    let parts = |k| [node(12, 60, [0; 3]), node(12, k, [0; 3]), node(20, 0, [0, 1, 0]), node(12, 1, [0; 3])];
+    let with = |k, last| nodes(&[node(12, 60, [0; 3]), node(12, k, [0; 3]), node(20, 0, [0, 1, 0]), last]);
+    let (used, unused) = (node(13, 0, [2, 0, 0]), node(12, 1, [0; 3]));
     vec![
-        case("64 rows of an unused node", nodes(&parts(4)), Table("mon|- - - -")),
-        case("65 rows of an unused node", nodes(&parts(5)), Refused(9, 2)),
+        case("64 rows of a used node", with(4, used), Rows("enf", 64)),
+        case("65 rows of a used node", with(5, used), Refused(9, 2)),
+        case("64 rows of an unused node", with(4, unused), Table("mon|- - - -")),
+        case("65 rows of an unused node", with(5, unused), Table("mon|- - - -")),
     ]
 }
 
@@ -306,7 +309,7 @@ fn lasts() -> Vec<Case> {
     ]
 }
 
-/// The order of the checks: 4 to 7 node by node, then the last node's 6, then 8 and 9.
+/// The order of the checks: 4 and 5 node by node, then 6 and 7, then the last node's 6, then 8 and 9.
 fn order() -> Vec<Case> {
     let tower = |count, last| {
         let mut all = Sheet::read(&tower(count)).expect("a sheet").nodes;
@@ -315,12 +318,15 @@ fn order() -> Vec<Case> {
     };
     let formula = node(3, 0, [0; 3]);
     vec![
-        case("7 before 4 of the next node", tower(12, node(99, 0, [0; 3])), Refused(7, 11)),
+        case("4 before 7 of an earlier node", tower(12, node(99, 0, [0; 3])), Refused(4, 12)),
+        case("5 before 7 of an earlier node", tower(12, node(13, 0, [12, 0, 0])), Refused(5, 12)),
+        case("7 before 6 of the next node", tower(12, node(17, 0, [11, 0, 0])), Refused(7, 11)),
+        case("7 of an earlier node", tower(12, node(13, 0, [11, 0, 0])), Refused(7, 11)),
         case("4 before 9 of an earlier node", tower(11, node(99, 0, [0; 3])), Refused(4, 11)),
         case("5 before 9 of an earlier node", tower(11, node(13, 0, [11, 0, 0])), Refused(5, 11)),
-        case("6 before 9 of an earlier node", tower(11, node(17, 0, [0, 0, 0])), Refused(6, 11)),
-        case("the last 6 before 9 of an earlier node", tower(11, formula), Refused(6, 11)),
-        case("7 before the last 6", tower(12, formula), Refused(7, 11)),
+        case("6 before 9 of an earlier node", tower(11, node(17, 0, [10, 0, 0])), Refused(6, 11)),
+        case("the last 6, and 9 of an unused node", tower(11, formula), Refused(6, 11)),
+        case("the last 6, and 7 of an unused node", tower(12, formula), Refused(6, 12)),
         case("4 before 5", nodes(&[node(0, 9, [9; 3])]), Refused(4, 0)),
         case("5 before 6", nodes(&[formula, node(13, 9, [0; 3])]), Refused(5, 1)),
         case("2 before 3", changed(&[(0, 0), (4, 0)]), Refused(2, 0)),

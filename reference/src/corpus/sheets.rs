@@ -1,10 +1,13 @@
-//! The corpus of sheets: those of "A small roastery" first, then those with a stated answer, then drawn ones.
+//! The corpus of sheets: those of "A small roastery" first, then those with a stated answer, then drawn ones, at the end
+//! pairs of a sheet with spare nodes and the same without.
 
 use super::{tally, write, Corpus};
 use crate::calls::{self, VALUES, WORK};
-use crate::cases::{counted, sheets, small_roastery, Case, Lent};
+use crate::cases::{counted, sheets, small_roastery, spare, Case, Lent};
+use crate::compile;
 use crate::generate::{lay_out, sheet, Random, Style};
 use crate::inputs::sheets::SORTS;
+use crate::inputs::spare::{any_spared, Spared};
 use crate::inputs::tables::Pool;
 use crate::sheet::Sheet;
 use crate::table::LARGEST;
@@ -34,9 +37,13 @@ const LONGEST: usize = 400;
 const OF_EACH_KIND: usize = 14;
 /// Drawn sheets of a sort for each hundredth of its share.
 const ROUNDS: usize = 4;
+/// Pairs of sheets, of which each fourth is refused, and their names.
+const PAIRS: usize = 20;
+pub const WITH_SPARE_NODES: &str = "spare nodes between";
+pub const WITHOUT_SPARE_NODES: &str = "the same, spare nodes taken out";
 
 pub fn all() -> Vec<Record> {
-    let stated = small_roastery().into_iter().chain(sheets::all()).chain(counted::all());
+    let stated = small_roastery().into_iter().chain(sheets::all()).chain(spare::all()).chain(counted::all());
     let mut all: Vec<Record> = stated.map(|Case { name, lent, sheet, .. }| record(name, lent, sheet)).collect();
     let mut random = Random(1);
     let mut draw = |name: String, draw: &dyn Fn(&mut Random) -> Vec<u8>| {
@@ -48,6 +55,13 @@ pub fn all() -> Vec<Record> {
     }
     for sort in SORTS.iter().filter(|sort| sort.name != "sheet, long") {
         (0..ROUNDS * sort.share).for_each(|_| draw(sort.name.into(), &sort.draw));
+    }
+    for pair in 0..PAIRS {
+        let refused = |pair: &Spared| compile(&pair.plain.bytes()).is_err();
+        let mut drawn = std::iter::repeat_with(|| any_spared(&mut random));
+        let pair = drawn.find(|drawn| refused(drawn) == (pair % 4 == 3)).expect("a pair");
+        all.push(record(WITH_SPARE_NODES.into(), Lent::Whole, pair.spared.bytes()));
+        all.push(record(WITHOUT_SPARE_NODES.into(), Lent::Whole, pair.plain.bytes()));
     }
     all
 }

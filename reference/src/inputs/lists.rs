@@ -1,9 +1,10 @@
 //! Sheets of every sort with lists of actions, for explaining.
 
 use super::sheets::any_sheet;
+use super::spare::{put_between, taken_out, Spared};
 use super::texts;
 use crate::compile;
-use crate::generate::{lay_out, sheet, Random, Style};
+use crate::generate::{all_types, lay_out, sheet, Random, Style};
 use crate::machine::Rows;
 use crate::sheet::{Node, Sheet, Type};
 use crate::table::HEADER;
@@ -22,6 +23,7 @@ pub fn any_list(random: &mut Random) -> List {
         0..=34 => ("list, Ands over drawn nodes", ands(random)),
         35..=59 => ("list, Ands as of a text", ands_of_a_text(random)),
         60..=69 => ("list, a policy as of a text", policy_of_a_text(random)),
+        70..=79 => ("list, Ands with spare nodes", spare_ands(random)),
         _ => ("list, a sheet of any sort", any_sheet(random).1),
     };
     let list = list_for(random, &sheet);
@@ -39,7 +41,7 @@ fn ands(random: &mut Random) -> Vec<u8> {
 
 /// The sheet with some Ands behind its nodes, the last one the policy. A sheet that has no enforced node gets one.
 pub fn conjunction(random: &mut Random, mut sheet: Sheet) -> Sheet {
-    let types = sheet.types().expect("a sheet that passes 1 to 7");
+    let types = all_types(&sheet);
     let mut enforced: Vec<u8> =
         (0..types.len()).filter(|&node| matches!(types[node], Type::Enforced(_))).map(|node| node as u8).collect();
     if enforced.is_empty() {
@@ -56,6 +58,19 @@ pub fn conjunction(random: &mut Random, mut sheet: Sheet) -> Sheet {
         sheet.nodes.push(Node { kind: 14, argument: 0, parts });
     }
     sheet
+}
+
+/// The same without the nodes that the policy does not use, and with others between.
+pub fn spared_ands(random: &mut Random) -> Spared {
+    let (actions, nodes) = (1 + random.below(4), 3 + random.below(20));
+    let drawn = sheet(random, Style { actions, nodes, inside_limits: true, slips: 0 });
+    let whole = conjunction(random, drawn);
+    put_between(random, taken_out(&whole))
+}
+
+fn spare_ands(random: &mut Random) -> Vec<u8> {
+    let drawn = spared_ands(random);
+    lay_out(random, &drawn.spared)
 }
 
 /// And of two to six enforced policies, each node as often as it stands in the text.

@@ -1,12 +1,13 @@
 //! Sheets of every sort.
 
+use super::spare::{faulty_bytes, spare_nodes};
 use super::{any_of, cut_or_grow, damage, sort, Sort};
 use crate::generate::{lay_out, sheet, Random, Style};
 use crate::sheet::{Node, Sheet, HEADER};
 use crate::trees::*;
 
 /// All sorts.
-pub const SORTS: [Sort; 11] = [
+pub const SORTS: [Sort; 13] = [
     sort("sheet, well typed", 20, |random| drawn(random, false, 0)),
     sort("sheet, inside the limits", 25, |random| drawn(random, true, 0)),
     sort("sheet, with slips", 10, |random| drawn(random, false, 10)),
@@ -18,6 +19,8 @@ pub const SORTS: [Sort; 11] = [
     sort("sheet, cut or grown", 4, cut_or_grown),
     sort("sheet, long", 3, long_sheet),
     sort("sheet, random bytes", 3, random_bytes),
+    sort("sheet, spare nodes", 8, spare_nodes),
+    sort("sheet, a spare node with a fault", 3, faulty_bytes),
 ];
 
 /// A sheet and the name of its sort.
@@ -94,7 +97,7 @@ fn long_sheet(random: &mut Random) -> Vec<u8> {
 }
 
 /// Policies whose values or rows come near 1,024 or 64.
-fn near_the_limits(random: &mut Random) -> Vec<u8> {
+pub fn near_the_limits(random: &mut Random) -> Vec<u8> {
     let about = |random: &mut Random, k: u8| k - 2 + random.below(5) as u8;
     let actions: Vec<u16> = (0..2 + random.below(4)).map(|_| random.below(4) as u16).collect();
     let policy = match random.below(8) {
@@ -117,7 +120,7 @@ fn near_the_limits(random: &mut Random) -> Vec<u8> {
 }
 
 /// Fulfilling of a small a, whose bound is k, is near it, or is none.
-fn small_fulfilling(random: &mut Random) -> Vec<u8> {
+pub fn small_fulfilling(random: &mut Random) -> Vec<u8> {
     let k = 1 + random.below(5) as u8;
     let other = count(1 + random.below(5) as u8);
     let a = match random.below(9) {
@@ -139,7 +142,7 @@ fn small_fulfilling(random: &mut Random) -> Vec<u8> {
 
 /// A policy whose bound is about 65,534: nodes 0 to 15 have the powers of two, the next ones add up
 /// to the bound less one, the last adds one. They are all too large to build (9 at node 7).
-fn near_the_largest_bound(random: &mut Random) -> Vec<u8> {
+pub fn near_the_largest_bound(random: &mut Random) -> Vec<u8> {
     let node = |kind, argument, parts| Node { kind, argument, parts };
     let mut nodes = vec![node(12, 1, [0; 3])];
     nodes.extend((0..15).map(|n| node(20, 0, [n, n, 0])));

@@ -1,23 +1,27 @@
-//! Runs random and damaged inputs through the library and the reference side by side.
+//! Runs random and damaged inputs through the library and the reference side by side, and sheets with spare nodes beside
+//! the same without.
 //! Arguments: number of calls, seed. Ends with the counts and `0 disagreements`, or status 1.
 
 mod beside;
 mod boards;
 mod lent;
 mod library;
+mod spare;
 
 use beside::{Beside, Call, Outcome};
 use boards::{about, any_board, number};
 use reference::board::{AREA, PLACES, RECORD};
 use reference::calls::{fields, DENIED, VALUES, WORK};
-use reference::generate::Random;
+use reference::generate::{lay_out, Random};
 use reference::inputs::joins::any_join;
-use reference::inputs::lists::{any_list, list_for, long_list};
+use reference::inputs::lists::{any_list, list_for, long_list, spared_ands};
 use reference::inputs::sheets::any_sheet;
+use reference::inputs::spare::{any_spared, Spared};
 use reference::inputs::tables::Pool;
 use reference::inputs::texts::{any_actions, any_text};
 use reference::table::LARGEST;
 use reference::text::OUTPUT;
+use spare::{Desk, Pair};
 use std::collections::{BTreeMap, BTreeSet};
 
 /// So many disagreements are printed; then the run ends.
@@ -30,6 +34,7 @@ const LONG: usize = 500;
 struct Fuzz {
     random: Random,
     beside: Beside,
+    desk: Desk,
     pool: Pool,
     sorts: BTreeMap<&'static str, usize>,
     /// By call and number of the answer.
@@ -37,6 +42,8 @@ struct Fuzz {
     /// The nodes that explaining named, and the places.
     named: BTreeSet<u16>,
     places: BTreeSet<u64>,
+    /// Pairs of a sheet with spare nodes and the same without, by call and number of the answer.
+    pairs: BTreeMap<(&'static str, u16), usize>,
     calls: usize,
     disagreements: usize,
 }
@@ -64,6 +71,36 @@ impl Fuzz {
         let (outcome, out) = self.beside.compile(&mut self.random, sheet, lengths);
         self.keep(&outcome, &out);
         self.count(if short { "sheet, an area too short" } else { sort }, "compile", outcome);
+    }
+
+    /// A sheet with spare nodes and the same without: each beside the reference, and both beside each other.
+    fn spare_nodes(&mut self) {
+        let ands = self.random.chance(40);
+        let drawn = if ands { spared_ands(&mut self.random) } else { any_spared(&mut self.random) };
+        let Spared { plain, spared, numbers } = drawn;
+        let (plain, spared) = (lay_out(&mut self.random, &plain), lay_out(&mut self.random, &spared));
+        let pair = Pair { plain: &plain, spared: &spared, numbers: &numbers };
+        if ands {
+            let list = list_for(&mut self.random, &plain);
+            self.explain("list, of a pair with spare nodes", &spared, &list);
+            self.explain("list, of a pair without", &plain, &list);
+            let outcome = self.desk.explained(&pair, &list);
+            self.pair("explain", outcome);
+        }
+        self.compile("sheet, of a pair with spare nodes", &spared);
+        self.compile("sheet, of a pair without", &plain);
+        let outcome = self.desk.compiled(&pair);
+        self.pair("compile", outcome);
+    }
+
+    fn pair(&mut self, call: &'static str, outcome: Result<u16, String>) {
+        match outcome {
+            Ok(number) => *self.pairs.entry((call, number)).or_default() += 1,
+            Err(text) => {
+                self.disagreements += 1;
+                println!("disagreement {}, call {}, spare nodes, {text}", self.disagreements, self.calls);
+            }
+        }
     }
 
     /// Joins tables; what they give goes to the others, so that joined tables are joined and put on boards too.
@@ -183,6 +220,13 @@ impl Fuzz {
     }
 }
 
+/// How often a call answered each number.
+fn by_number(counts: &BTreeMap<(&'static str, u16), usize>, name: &str) -> String {
+    let of_call = counts.iter().filter(|((call, _), _)| *call == name);
+    let list: Vec<String> = of_call.map(|((_, number), count)| format!("{number}: {count}")).collect();
+    list.join(", ")
+}
+
 fn main() {
     let mut arguments = std::env::args().skip(1).map(|word| word.parse::<u64>().expect("a number"));
     let calls = arguments.next().unwrap_or(1_200_000) as usize;
@@ -190,22 +234,25 @@ fn main() {
     let mut fuzz = Fuzz {
         random: Random(seed),
         beside: Beside::new(),
+        desk: Desk::new(),
         pool: Pool::default(),
         sorts: BTreeMap::new(),
         answers: BTreeMap::new(),
         named: BTreeSet::new(),
         places: BTreeSet::new(),
+        pairs: BTreeMap::new(),
         calls: 0,
         disagreements: 0,
     };
     while fuzz.calls < calls && fuzz.disagreements < ENOUGH {
-        match fuzz.random.below(185) {
+        match fuzz.random.below(195) {
             0..=39 => fuzz.sheet(),
             40..=69 => fuzz.table(),
             70..=98 => fuzz.board(),
             99..=138 => fuzz.text(),
             139..=158 => fuzz.join(),
             159..=183 => fuzz.list(),
+            184..=193 => fuzz.spare_nodes(),
             _ => fuzz.history(),
         }
     }
@@ -213,9 +260,12 @@ fn main() {
     fuzz.sorts.iter().for_each(|(sort, count)| println!("{count:>9}  {sort}"));
     println!("answers by call and number (0 done, 255 denied)");
     for name in ["read_text", "compile", "join", "explain", "load", "new_board", "put_on", "take_off", "action"] {
-        let of_call = fuzz.answers.iter().filter(|((call, _), _)| *call == name);
-        let list: Vec<String> = of_call.map(|((_, number), count)| format!("{number}: {count}")).collect();
-        println!("{name:>9}  {}", list.join(", "));
+        println!("{name:>9}  {}", by_number(&fuzz.answers, name));
+    }
+    let pairs: usize = fuzz.pairs.values().sum();
+    println!("{pairs} pairs of a sheet with spare nodes and the same without that answer alike, by call and number");
+    for name in ["compile", "explain"] {
+        println!("{name:>9}  {}", by_number(&fuzz.pairs, name));
     }
     let farthest = fuzz.places.last().copied().unwrap_or(0);
     println!("{} nodes named, {} places up to {farthest}", fuzz.named.len(), fuzz.places.len());

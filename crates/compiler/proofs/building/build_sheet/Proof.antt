@@ -2,7 +2,7 @@
 -- Assumes nothing.
 use mathlib.Core.Path.{_≡_}
 use borrow.Author.Needs.{needs}
-use Rattle.syntax.specs.Typed.{sound}
+use Rattle.typing.specs.Typed.{sound}
 use Rattle.sheet.specs.Judge.{judge}
 use Rattle.compiler.specs.Compiles.{faulted}
 use Rattle.compiler.proofs.Judgements.{judged-faulty, judged-policy}

@@ -19,7 +19,7 @@ use Rattle.explaining.specs.Denials.{policyNode, FirstDenied}
 use Rattle.explaining.specs.Explains.{Explanation, no-denial, denied, refused, Finds, no-action, none-denied, first-denied}
 use Rattle.explaining.specs.Reading.{FindsBy, LowestTrips, Standing}
 use Rattle.explaining.proofs.Walks.{not-sequence}
-use Rattle.explaining.proofs.ReachedNodes.{all-earlier}
+use Rattle.reached.proofs.NodeSets.{all-earlier}
 use Rattle.explaining.proofs.Findings.{walkable, namable, none-denied-by, first-denied-by, lowest-violated}
 use Rattle.explaining.proofs.Standing.{watched-mode, enforced-mode}
 use Rattle.explaining.proofs.call.find_denial.Statement.{statement}
@@ -76,7 +76,7 @@ reached-by-and-requires : tie.Need-reached-by-and-requires
 reached-by-and-requires c κs =
     let e = mine (c .before .before .before) in
     let f = stands e .right .formed in
-    (omega (arith, f .few-nodes, f .some-node), all-earlier f)
+    (omega (arith, f .few-nodes, f .some-node), all-earlier _ f)
 
 -- an action is denied
 module _ (c : tie.After-reached-by-and) where

@@ -9,10 +9,10 @@ use Rattle.naive.proofs.meanings.evaluate.Statement.{statement}
 use Rattle.naive.proofs.meanings.evaluate.Tie as tie
 
 abbrev Inv-loop : tie.InvT-loop
-Inv-loop bytes laid truths₀ nodes n₀ truths n = (n ≤ nodes) × (length truths ≡ length truths₀) × Truths truths
+Inv-loop bytes laid truths₀ nodes used n₀ truths n = (n ≤ nodes) × (length truths ≡ length truths₀) × Truths truths
 
 abbrev μ-loop : tie.MeasureT-loop
-μ-loop bytes laid truths₀ nodes n₀ truths n = nodes - n
+μ-loop bytes laid truths₀ nodes used n₀ truths n = nodes - n
 
 pub evaluate-spec : {M : Type 1} → statement M
 evaluate-spec =
@@ -20,6 +20,10 @@ evaluate-spec =
     (tie.spec
     Inv-loop
     μ-loop
+    (λ c κs. search needs)
+    (λ c. search needs)
+    (λ c κs. search needs)
+    (λ c. search needs)
     (λ c. search needs)
     (λ c κs. search needs)
     (λ c. search needs)

@@ -1,13 +1,22 @@
--- `node_rules::lowering::rules_of` meets its contract. The loop's invariant: the array has the rules of the nodes before n.
+-- `node_rules::lowering::rules_of` meets its contract. The loop's invariant: the array has the rules of the used policy nodes before n.
 -- Assumes nothing.
-use mathlib.Core.Path.{_≡_, refl, ap, _∙_}
-use Prim.Native.Nat.{_-_, _≤_}
+use mathlib.Core.Path.{_≡_, refl, ap, sym, _∙_}
+use mathlib.Core.List.{List}
+use Prim.Native.Nat.{ℕ, suc, _-_, _≤_}
 use native.Mathlib.Numerals.{add-one}
 use native.Mathlib.Omega.{arith}
 use lib.ListN.{set}
 use borrow.Author.Needs.{needs}
+use Rattle.base.proofs.Filled.{filled-skip}
+use Rattle.syntax.specs.Nodes.{nodeAt}
+use Rattle.syntax.specs.Types.{typeAt}
+use Rattle.syntax.specs.declared.ListedNode.{ListedNode}
+use Rattle.syntax.specs.declared.NodeType.{NodeType}
+use Rattle.syntax.specs.declared.TypedNode.{TypedNode}
 use Rattle.rules.specs.declared.Lowered.{Lowered}
-use Rattle.node_rules.specs.Lowering.{firstRules}
+use Rattle.rules.specs.declared.Lowered.the-variants.{NoRule}
+use Rattle.rules.specs.declared.RuleAt.{RuleAt}
+use Rattle.node_rules.specs.Lowering.{setAt, lowered, ofPolicy, firstRules}
 use Rattle.node_rules.proofs.lowering.rules_of.Statement.{statement}
 use Rattle.node_rules.proofs.lowering.rules_of.Tie as tie
 
@@ -17,12 +26,53 @@ Inv-loop types count nodes sets rules₀ n₀ rules n = (n ≤ count) × (rules 
 abbrev μ-loop : tie.MeasureT-loop
 μ-loop types count nodes sets rules₀ n₀ rules n = count - n
 
+-- the type of node n is looked at
+module _ (c : tie.After-typed Inv-loop μ-loop) where
+  abbrev nodes : List ListedNode
+  nodes = c .before .before .before .before .before .args .sheet .nodes
+
+  abbrev types : List TypedNode
+  types = c .before .before .before .before .before .args .t2
+
+  abbrev sets : List ℕ
+  sets = c .before .before .before .formula-sets .result
+
+  abbrev n : ℕ
+  n = c .before .before .loop .n
+
+  abbrev rules : List RuleAt
+  rules = c .before .before .loop .rules
+
+  so-far : rules ≡ firstRules nodes types sets n
+  so-far = c .before .before .loop .inv .1
+
+  -- the node's own rule, by its type
+  abbrev own : NodeType → RuleAt
+  own t = record { of = ofPolicy t (lowered (typeAt types) (setAt sets) (nodeAt nodes n)) }
+
+  -- it has none
+  skipped : {t : NodeType} → typeAt types n ≡ t → own t ≡ record { of = NoRule } → rules ≡ firstRules nodes types sets (suc n)
+  skipped e z =
+      so-far
+      ∙ sym (filled-skip 64 (record { of = NoRule }) (λ i l. record { of = ofPolicy (typeAt types i) (lowered (typeAt types) (setAt sets) (nodeAt nodes i)) }) n (ap own e ∙ z))
+
 loop-again : tie.Need-loop-again Inv-loop μ-loop
 loop-again c =
-    let turn = c .before .before .before in (
+    let a = c .before .before in
+    (search needs, rw (add-one (n a)) (skipped a (c .enum-told .given .1) refl))
+
+loop-again-2 : tie.Need-loop-again-2 Inv-loop μ-loop
+loop-again-2 c =
+    let a = c .before .before in
+    (search needs, rw (add-one (n a)) (skipped a (c .enum-told2 .given .1) refl))
+
+loop-again-3 : tie.Need-loop-again-3 Inv-loop μ-loop
+loop-again-3 c =
+    let a = c .before .before .before .before in (
       search needs,
-      rw (add-one (turn .loop .n), ← turn .loop .inv .1)
-          (ap (λ (x : Lowered). set (turn .loop .rules) (turn .loop .n) (record { of = x })) (c .lower .ensures)),
+      rw (add-one (n a), ← so-far a)
+          (ap (λ (x : Lowered). set (rules a) (n a) (record { of = x }))
+          (c .lower .ensures ∙ ap (λ (t : NodeType). ofPolicy t (lowered (typeAt (types a)) (setAt (sets a)) (nodeAt (nodes a) (n a)))) (sym (c .before .before .enum-told3 .given .1)))),
     )
 
 returns : tie.Need-returns Inv-loop μ-loop
@@ -41,10 +91,19 @@ rules-of-spec =
     (λ c. (search needs, refl))
     (λ c. search needs)
     (λ c. search needs)
-    (λ c κs. search needs)
-    (λ c. search needs)
     (λ c. search needs)
     (λ c. search needs)
     (λ c. search needs)
     loop-again
+    (λ c. search needs)
+    (λ c. search needs)
+    loop-again-2
+    (λ c. search needs)
+    (λ c. search needs)
+    (λ c. search needs)
+    (λ c κs. search needs)
+    (λ c. search needs)
+    (λ c. search needs)
+    (λ c. search needs)
+    loop-again-3
     returns)

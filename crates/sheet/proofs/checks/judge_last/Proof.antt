@@ -2,8 +2,8 @@
 -- Assumes nothing.
 use mathlib.Core.Path.{ap, sym, _∙_}
 use borrow.Author.Needs.{needs}
-use Rattle.syntax.specs.Typed.{judgeLast}
 use Rattle.syntax.specs.declared.NodeType.{NodeType}
+use Rattle.typing.specs.Typed.{judgeLast}
 use Rattle.sheet.specs.Judge.{judgedSheet}
 use Rattle.sheet.specs.declared.JudgedSheet.{JudgedSheet}
 use Rattle.sheet.proofs.checks.judge_last.Statement.{statement}
@@ -16,7 +16,10 @@ returns : tie.Need-returns
 returns c = let a = c .before .before in ap (judged-as a) (sym (c .enum-told .given .1) ∙ a .type-at .ensures)
 
 returns-2 : tie.Need-returns-2
-returns-2 c =
+returns-2 c = let a = c .before .before in ap (judged-as a) (sym (c .enum-told2 .given .1) ∙ a .type-at .ensures)
+
+returns-3 : tie.Need-returns-3
+returns-3 c =
     let a = c .before .before .before in
     ap (judged-as a) (sym (c .before .mode .given .1) ∙ a .type-at .ensures)
 
@@ -28,5 +31,7 @@ judge-last-spec =
     (λ c κs. search needs)
     (λ c. search needs)
     (λ c. search needs)
+    (λ c. search needs)
     returns
-    returns-2)
+    returns-2
+    returns-3)

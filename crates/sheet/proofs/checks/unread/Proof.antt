@@ -1,5 +1,6 @@
 -- `sheet::checks::unread` meets its contract: no nodes and no actions are read.
 -- Assumes nothing.
+use mathlib.Core.Path.{_∙_}
 use native.Mathlib.Omega.{arith}
 use borrow.Author.Needs.{needs}
 use Rattle.sheet.proofs.checks.unread.Statement.{statement}
@@ -12,7 +13,7 @@ read-nodes-requires : tie.Need-read-nodes-requires
 read-nodes-requires c κs = (record { few = omega arith; inside = omega arith }, λ h. omega arith)
 
 returns : tie.Need-returns
-returns c = rw (c .before .before .before .before .read-actions .ensures, c .before .before .before .read-nodes .ensures, c .before .type-nodes .ensures)
+returns c = c .untyped .ensures ∙ rw (c .before .before .before .read-actions .ensures, c .before .before .read-nodes .ensures)
 
 pub unread-spec : {M : Type 1} → statement M
 unread-spec =

@@ -1,0 +1,2 @@
+pub mod SameUsed
+pub mod FirstFault

@@ -1,0 +1,5 @@
+pub mod Agreement
+pub mod Meanings
+pub mod PartTypes
+pub mod Sound
+pub mod Typings
