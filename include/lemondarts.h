@@ -34,9 +34,9 @@
  * - PATCH, where neither is so: stack, time, comments.
  */
 #define LEMONDARTS_VERSION_MAJOR 4
-#define LEMONDARTS_VERSION_MINOR 5
+#define LEMONDARTS_VERSION_MINOR 6
 #define LEMONDARTS_VERSION_PATCH 0
-#define LEMONDARTS_VERSION "4.5.0"
+#define LEMONDARTS_VERSION "4.6.0"
 
 /* Lengths. An area may be longer; what stands behind these lengths is not touched. */
 #define LEMONDARTS_RECORD 16     /* a board's record, in bytes */
@@ -251,8 +251,8 @@ uint64_t lemondarts_explain(const uint8_t *sheet, size_t sheet_length, const uin
  * and K is 1 to 60 without leading zero. `enforce always after now p0 holds not p1` says: no p1 right after p0.
  * Done: the sheet is at the front of `sheet`, LEMONDARTS_SHEET_LENGTH bytes, and what stands behind it is unchanged; its action list is `actions`,
  * and its nodes stand in the order of the text, parts before their whole. The value is its length, with ACTIONS and NODES. It can be given to
- * lemondarts_compile and lemondarts_explain, which may refuse it by 6 (the k of Fulfilling), 8 or 9. Refused: `sheet` is unchanged. The first refusal in the order
- * 14, 2 (no action, or over 16), 31, 32, 33. For 32 the value is the number of words before the first that does not fit, or of all words where
+ * lemondarts_compile and lemondarts_explain, which may refuse it by 8 or 9, and by none of 1 to 7. Refused: `sheet` is unchanged. The first
+ * refusal in the order 14, 2 (no action, or over 16), 31, 32, 33. For 32 the value is the number of words before the first that does not fit, or of all words where
  * the text ends too soon.
  */
 uint64_t lemondarts_read_text(const uint8_t *text, size_t text_length, const uint16_t *actions, size_t action_count,

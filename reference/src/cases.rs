@@ -1,5 +1,5 @@
 //! Cases with the answer stated beside each, by hand or by arithmetic and not by the reference.
-//! This file has those of "A small roastery", which are stated here and nowhere else.
+//! This file has those of "A small roastery", which are stated here and nowhere else, and some like them.
 
 pub mod counted;
 pub mod denials;
@@ -95,11 +95,16 @@ fn fulfilling_log(k: u8) -> Tree {
     fulfilling(k, now(prop(LOG)), holds(yes()), always(holds(but(prop(DROP)))))
 }
 
-/// All cases of docs/FORMATS.md, "A small roastery".
+/// A case over the roastery's actions.
+fn four(name: &str, tree: Tree, stated: Stated) -> Case {
+    case(name, tree.sheet(&ROASTERY).bytes(), stated)
+}
+
+/// The cases of docs/FORMATS.md, "A small roastery", but those of Fulfilling with another k than the bound of a, which
+/// `waits` and cases/counted.rs have.
 pub fn small_roastery() -> Vec<Case> {
     use Stated::*;
     let over = |name, tree: Tree, actions: &[u16], stated| case(name, tree.sheet(actions).bytes(), stated);
-    let four = |name, tree, stated| over(name, tree, &ROASTERY, stated);
     let drop = || eventually(now(prop(DROP)));
     vec![
         four("Always Holds not charge", no_charge(), Table("enf|- 0 0 0")),
@@ -115,7 +120,7 @@ pub fn small_roastery() -> Vec<Case> {
         four("Fulfilling 1 log", fulfilling_log(1), Table("enf|1 1 1 2|1 - 1 1|2 2 2 2")),
         four("Ignoring log Holds drop", ignoring(prop(LOG), holds(prop(DROP))), Table("enf|- 1 - 0|1 1 1 1")),
         four("Eventually Holds drop", eventually(holds(prop(DROP))), Refused(6, 2)),
-        four("Fulfilling 2 log", fulfilling_log(2), Refused(6, 8)),
+        four("Fulfilling 2 log", fulfilling_log(2), Table("enf|1 1 1 2|3 3 3 3|2 2 2 2|3 - 3 3")),
         four("Count 60", count(60), Rows("mon", 60)),
         four("Count 61", count(61), Refused(5, 0)),
         four("After- Count 60 Count 4", after_watched(count(60), count(4)), Rows("mon", 64)),
@@ -129,10 +134,78 @@ pub fn small_roastery() -> Vec<Case> {
     ]
 }
 
+/// Fulfilling in the small roastery whose a has no bound, or one that is below k, k or above it.
+pub fn waits() -> Vec<Case> {
+    use Stated::*;
+    let log = || now(prop(LOG));
+    let tray = || eventually(now(prop(TRAY)));
+    let no_drop = || always(holds(but(prop(DROP))));
+    let wait = |k, a| fulfilling(k, a, holds(yes()), no_drop());
+    let no_charge_after = |k, a| fulfilling(k, a, no_charge(), no_drop());
+    // The first action or the second: its bound is 2.
+    let log_soon = || or(log(), after_watched(count(1), log()));
+    let log_behind_tray = || after_watched(tray(), eventually(log()));
+    vec![
+        four("Fulfilling 3 eventually log", wait(3, eventually(log())), {
+            Table("enf|1 1 1 2|3 3 3 2|2 2 2 2|4 4 4 2|4 - 4 4")
+        }),
+        // The same as Fulfilling 1 log.
+        four("Fulfilling 1 eventually log", wait(1, eventually(log())), Table("enf|1 1 1 2|1 - 1 1|2 2 2 2")),
+        // 60 rows of waiting, b and c.
+        four("Fulfilling 60 eventually log", wait(60, eventually(log())), Rows("enf", 62)),
+        four("Fulfilling 60 log", wait(60, log()), Rows("enf", 62)),
+        // b never begins.
+        four("Fulfilling 60 of nothing", wait(60, now(no())), Rows("enf", 61)),
+        four("Fulfilling 2 of nothing", no_charge_after(2, now(no())), Table("enf|1 1 1 1|2 2 2 2|2 - 2 2")),
+        // Rows 1 and 3 wait for nothing more.
+        four("Fulfilling 3 log", wait(3, log()), Table("enf|1 1 1 2|3 3 3 3|2 2 2 2|4 4 4 4|4 - 4 4")),
+        four("Fulfilling 3 log soon", no_charge_after(3, log_soon()), {
+            Table("enf|1 1 1 2|3 3 3 2|- 2 2 2|4 4 4 4|4 - 4 4")
+        }),
+        four("Fulfilling 1 log soon", no_charge_after(1, log_soon()), Table("enf|1 1 1 2|1 - 1 1|- 2 2 2")),
+        // a is fulfilled by the third action alone: b never begins.
+        four("Fulfilling 2 Count 3", no_charge_after(2, count(3)), Table("enf|1 1 1 1|2 2 2 2|2 - 2 2")),
+        four("Fulfilling 3 Count 3", no_charge_after(3, count(3)), Table("enf|1 1 1 1|2 2 2 2|3 3 3 3|- 3 3 3")),
+        four("Fulfilling 4 Count 3", no_charge_after(4, count(3)), Table("enf|1 1 1 1|2 2 2 2|3 3 3 3|- 3 3 3")),
+        // The action k itself, and the action k + 1 alone.
+        four("Fulfilling 3, the third is log", no_charge_after(3, after_watched(count(2), log())), {
+            Table("enf|1 1 1 1|2 2 2 2|3 3 3 4|3 - 3 3|- 4 4 4")
+        }),
+        four("Fulfilling 3, the fourth is log", no_charge_after(3, after_watched(count(3), log())), {
+            Table("enf|1 1 1 1|2 2 2 2|3 3 3 3|3 - 3 3")
+        }),
+        // Row 2: a tray has come, and a log as the second action is in time.
+        four("Fulfilling 2 log behind a tray", no_charge_after(2, log_behind_tray()), {
+            Table("enf|1 1 2 1|3 3 3 3|3 3 3 4|3 - 3 3|- 4 4 4")
+        }),
+        // A tray is passed over by a, and is counted by k.
+        four("Fulfilling 2 Ignoring tray log", wait(2, ignoring(prop(TRAY), log())), {
+            Table("enf|1 1 2 3|4 4 4 4|4 4 4 3|3 3 3 3|4 - 4 4")
+        }),
+        // No log among two: a tray next, or no drop.
+        four(
+            "Fulfilling 2 log, else Fulfilling 1 tray",
+            fulfilling(2, eventually(log()), holds(yes()), wait(1, tray())),
+            Table("enf|1 1 1 2|3 3 3 2|2 2 2 2|4 4 2 4|4 - 4 4"),
+        ),
+        // Row 1: a wait has just begun. Row 2: one ends by the next action.
+        four(
+            "Whenever charge: Fulfilling 2 log",
+            always(after_enforced(now(prop(CHARGE)), wait(2, eventually(log())))),
+            Table("enf|1 0 0 0|2 2 2 0|3 3 3 0|3 - 3 3"),
+        ),
+        four("Not Fulfilling 2 log", not(wait(2, eventually(log()))), Table("mon|1 1 1 2|3 3 3 2|2 2 2 2|3 - 3 3")),
+    ]
+}
+
+/// What is stated for one of these.
+fn stated_of(name: &str) -> Option<Stated> {
+    small_roastery().into_iter().chain(waits()).find(|case| case.name == name).map(|case| case.stated)
+}
+
 /// The table that is stated for one of them.
 pub fn small_roastery_table(name: &str) -> Vec<u8> {
-    let found = small_roastery().into_iter().find(|case| case.name == name);
-    match found.map(|case| case.stated) {
+    match stated_of(name) {
         Some(Stated::Table(text)) => table_bytes(text),
         _ => panic!("no table is stated for {name}"),
     }

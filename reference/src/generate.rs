@@ -124,12 +124,7 @@ fn spoil(random: &mut Random, node: &mut Node, here: usize) {
     match node.kind {
         1..=3 | 12 => node.argument = random.pick(&[0, 1, 15, 16, 60, 61, 255]),
         4 | 10 | 11 | 13 | 16 | 17 => node.parts[0] = any_part,
-        22 if random.chance(60) => {
-            // Small, so that it is the bound of some part or of a part's part.
-            node.argument = 1 + random.below(4) as u8;
-            node.parts[0] = any_part;
-        }
-        22 => node.parts[1 + random.below(2)] = any_part,
+        22 => node.parts[random.below(3)] = any_part,
         _ => node.parts[random.below(2)] = any_part,
     }
 }
@@ -142,7 +137,6 @@ fn typed_node(random: &mut Random, types: &[Type], actions: usize, policy: bool)
     let formulas = of(|this| matches!(this, Type::Formula));
     let watched = of(|this| matches!(this, Type::Watched(_)));
     let enforced = of(|this| matches!(this, Type::Enforced(_)));
-    let bounded = of(|this| matches!(this, Type::Watched(Some(1..=60))));
     loop {
         let kind = match random.below(100) {
             0..=19 => random.pick(&[1, 2, 3, 3, 3, 3, 3, 4, 5, 6]),
@@ -166,7 +160,7 @@ fn typed_node(random: &mut Random, types: &[Type], actions: usize, policy: bool)
             17 => part(&enforced).map(|a| [a, 0, 0]),
             18 | 20 => part(&watched).zip(part(&watched)).map(|(a, b)| [a, b, 0]),
             19 | 21 => part(&watched).zip(part(&enforced)).map(|(a, b)| [a, b, 0]),
-            22 => part(&bounded).zip(part(&enforced).zip(part(&enforced))).map(|(a, (b, c))| [a, b, c]),
+            22 => part(&watched).zip(part(&enforced).zip(part(&enforced))).map(|(a, (b, c))| [a, b, c]),
             _ => part(&formulas).zip(part(one)).map(|(a, b)| [a, b, 0]),
         };
         let Some(parts) = parts.filter(|_| kind >= 10 || !policy) else { continue };
@@ -175,13 +169,19 @@ fn typed_node(random: &mut Random, types: &[Type], actions: usize, policy: bool)
             3 => random.below(16) as u8,
             12 if random.chance(90) => 1 + random.below(4) as u8,
             12 => 1 + random.below(60) as u8,
-            22 => match types[parts[0] as usize] {
-                Type::Watched(Some(bound)) => bound as u8,
-                _ => 1,
-            },
+            22 => wait(random, types[parts[0] as usize]),
             _ => 0,
         };
         return Node { kind, argument, parts };
+    }
+}
+
+/// The k of a Fulfilling over an a of this type: mostly small, at times about the bound of a, at times up to the most.
+pub fn wait(random: &mut Random, a: Type) -> u8 {
+    match (random.below(10), a) {
+        (0, _) => 1 + random.below(60) as u8,
+        (1..=3, Type::Watched(Some(bound @ 1..=61))) => (bound as u8 + random.below(3) as u8 - 1).clamp(1, 60),
+        _ => 1 + random.below(6) as u8,
     }
 }
 

@@ -6,6 +6,7 @@ pub mod sheets;
 pub mod spare;
 pub mod tables;
 pub mod texts;
+pub mod waits;
 
 use crate::generate::Random;
 

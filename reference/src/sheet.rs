@@ -192,9 +192,7 @@ fn type_of(kind: u8, argument: u8, parts: &[Type]) -> Option<Type> {
         (19, [Watched(_), Enforced(b)]) => Enforced(*b),
         (20, [Watched(a), Watched(b)]) => Watched(sum(*a, *b)),
         (21, [Watched(a), Enforced(b)]) => Enforced(sum(*a, *b)),
-        (22, [Watched(a), Enforced(b), Enforced(c)]) if *a == Some(argument as u32) => {
-            Enforced(sum(*a, larger(*b, *c)))
-        }
+        (22, [Watched(_), Enforced(b), Enforced(c)]) => Enforced(sum(Some(argument as u32), larger(*b, *c))),
         (23, [Formula, Watched(_)]) => Watched(None),
         (23, [Formula, Enforced(_)]) => Enforced(None),
         _ => return None,

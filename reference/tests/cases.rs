@@ -2,7 +2,8 @@
 
 use reference::cases::histories;
 use reference::cases::{
-    counted, sheets, small_roastery, small_roastery_table, spare, table_bytes, tables, type_byte, Case, Lent, Stated,
+    counted, sheets, small_roastery, small_roastery_table, spare, table_bytes, tables, type_byte, waits, Case, Lent,
+    Stated,
 };
 use reference::corpus::calls::Desk;
 use reference::trees::*;
@@ -42,6 +43,11 @@ fn check(case: Case) {
 #[test]
 fn papers_cases() {
     small_roastery().into_iter().for_each(check);
+}
+
+#[test]
+fn shorter_and_longer_waits() {
+    waits().into_iter().for_each(check);
 }
 
 #[test]

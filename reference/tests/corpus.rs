@@ -45,6 +45,20 @@ fn pairs_agree() {
     assert!(compiled >= 10 && pairs.len() - compiled >= 3, "{compiled} of {}", pairs.len());
 }
 
+/// A Fulfilling and the same written otherwise have one table. Every way is there.
+#[test]
+fn waits_agree() {
+    let records = sheets::all();
+    let pairs: Vec<_> = records.windows(2).filter(|pair| pair[0].name == sheets::WAIT).collect();
+    for pair in &pairs {
+        assert_eq!((pair[0].answer, &pair[0].table), (pair[1].answer, &pair[1].table), "{}", pair[1].name);
+        assert!(pair[0].answer[0] == 0 && pair[0].table[4] > 2);
+    }
+    for (_, name) in sheets::OTHERWISE {
+        assert!(pairs.iter().filter(|pair| pair[1].name == name).count() >= 4, "{name}");
+    }
+}
+
 /// Every kind is in eight sheets of texts and more, the whole policy of one; every answer is there at least eight times.
 #[test]
 fn texts_cover_kinds_and_answers() {

@@ -89,14 +89,14 @@ fn every_output_length() {
 /// Each house rule's text gives the table of its sheet, and every file of a rule is tried.
 #[test]
 fn house_rules() {
-    for house in house::RULES.iter().chain([&house::REPORT]) {
+    for house in house::RULES.iter().chain([&house::WITHIN, &house::REPORT]) {
         let sheet = read_text(house.text().as_bytes(), &house.actions()).expect(house.name);
         assert_eq!(sheet.actions, Sheet::read(house.sheet).unwrap().actions, "{}", house.name);
         let table = compile(&sheet.bytes());
         assert!(table.is_ok(), "{}", house.name);
         assert_eq!(table, compile(house.sheet), "{}", house.name);
     }
-    let others = [&house::REPORT, &house::UNSAYABLE];
+    let others = [&house::WITHIN, &house::REPORT, &house::UNSAYABLE];
     let refused = read_text(house::UNSAYABLE.text().as_bytes(), &house::UNSAYABLE.actions());
     assert_eq!(refused, Err(Refusal { number: 32, spot: 5 }));
     let folder = concat!(env!("CARGO_MANIFEST_DIR"), "/../examples/house");
@@ -137,12 +137,9 @@ fn drawn_rules_are_read_as_they_are() {
         let mut used: Vec<u8> = sheet.nodes.iter().flat_map(|node| used(node.kind, &node.parts)).collect();
         used.sort();
         assert_eq!(used, (0..nodes as u8 - 1).collect::<Vec<u8>>(), "each is a part once: {text}");
-        match sheet.types() {
-            Ok(types) => assert_eq!(matches!(types[nodes - 1], Type::Watched(_)), first == "watch", "{text}"),
-            Err(refusal) => {
-                assert_eq!((refusal.number, sheet.nodes[refusal.spot as usize].kind), (6, 22), "{text}");
-            }
-        }
+        // Such a sheet meets neither 6 nor 7.
+        let types = sheet.types().expect(&text);
+        assert_eq!(matches!(types[nodes - 1], Type::Watched(_)), first == "watch", "{text}");
     }
     assert!((1..=6).chain(10..=23).all(|kind| kinds[kind] > 500), "{kinds:?}");
 }

@@ -96,7 +96,7 @@ module _ (bytes : List ℕ) (valueLimit rowLimit : ℕ) where
 
   -- a sheet that no refusal applies to
   module _ (u : NoRefusal bytes valueLimit rowLimit) where
-    none-over : {mode : Mode} {sheet : Sheet} {types : List TypedNode} → judge bytes ≡ sound mode sheet types → NoneOver sheet types valueLimit rowLimit
+    pub none-over : {mode : Mode} {sheet : Sheet} {types : List TypedNode} → judge bytes ≡ sound mode sheet types → NoneOver sheet types valueLimit rowLimit
     none-over {mode} {sheet} {types} j =
         subst (λ (s : Sheet). NoneOver s types valueLimit rowLimit) same-sheet
         (subst (λ (l : List TypedNode). NoneOver (u .sheet) l valueLimit rowLimit) same-types (u .none))

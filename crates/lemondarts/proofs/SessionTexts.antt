@@ -39,8 +39,7 @@ module _ {text actions sheet sheet' : List ℕ} {bytes count nodes : ℕ} (call 
   refused-some : {out' work' values' : List ℕ} {number spot : ℕ}
       → CompilesInto (take bytes sheet') out work values (refused number spot) out' work' values' → 1 ≤ number
   refused-some (short n) = omega arith
-  refused-some (made a answer table c) =
-      elim (text-refused-by call read narrow c) [ inl e ↦ omega arith | inr over ↦ elim over [ inl e ↦ omega arith | inr e ↦ omega arith ] ]
+  refused-some (made a answer table c) = elim (text-refused-by call read narrow c) [ inl e ↦ omega arith | inr e ↦ omega arith ]
 
   -- so a 0 is a table, and its fields say how long it is
   makes : {out' work' values' : List ℕ} (returned : ℕ) (answer : Answer)

@@ -143,14 +143,10 @@ pub fn type_of(node: Fields, types: &[usize]) -> Type
     if !modes_fit(node.kind, a, b, mode_at(types, node.c)) {
         return Type { number: 6, code: 0 };
     }
-    let bound_a = bound_at(types, node.a);
-    if (node.kind == 22) & (bound_a != node.argument) {
-        return Type { number: 6, code: 0 };
-    }
     let bound = bound_of(
         node.kind,
         node.argument,
-        bound_a,
+        bound_at(types, node.a),
         bound_at(types, node.b),
         bound_at(types, node.c),
     );

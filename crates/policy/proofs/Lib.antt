@@ -1,4 +1,5 @@
 pub mod Words
+pub mod Waits
 pub mod Residual
 pub mod Parts
 pub mod Lasting

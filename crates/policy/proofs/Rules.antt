@@ -12,13 +12,13 @@ use borrow.Author.Tests.{leb-true}
 use Rattle.policy.specs.Formula.{Formula, holds}
 use Rattle.policy.specs.Words.{Property, firstAction, someSuffix, everySuffix, first, following}
 use Rattle.policy.specs.Policy.{Policy, now, holds-first, count, not-p, and-p, or-p, eventually, always, before-, before+, after-, after+, fulfilling, ignoring, late, within, satisfies}
-use Rattle.policy.specs.Typing.{Mode, watched, enforced, Bound, finite, typed, untyped, ifEnforced, larger, plus, exactly, typeOf}
+use Rattle.policy.specs.Typing.{Mode, watched, enforced, Bound, finite, typed, typeOf}
 use Rattle.policy.specs.Rule.{onParts, lateTrips, timedTrips, ruleTrips, ruleOf}
 use Rattle.policy.specs.Parts.{AllParts, Positive}
 use Rattle.policy.specs.Trips.{tripsPolicy, Typed}
 use Rattle.policy.specs.Lasting.{Lasting}
 use Rattle.policy.proofs.Words.{not-not, not-or, not-and, every-not-some}
-use Rattle.policy.proofs.Typings.{typed-as, from-typed, from-watched, from-enforced, from-mode, from-cond}
+use Rattle.policy.proofs.Typings.{typed-as, from-typed, from-watched, from-enforced, from-mode, from-cond, fulfilling-typed}
 use Rattle.policy.proofs.Parts.{all-apply, positive-on, policy-ind}
 use Rattle.policy.proofs.Lasting.{rule-lasting}
 
@@ -114,26 +114,17 @@ module _ (propositions : ℕ → ℕ) where
               λ w. rw (watched-trips a p, enforced-trips b q, p, q) (not-following (first (satisfies propositions a) w) (satisfies propositions b) w);
         }
 
-  fulfilling-ruled : (n : ℕ) (a b c : Policy) {i j k : Bound} → typeOf a ≡ typed watched i → exactly i n ≡ true
-      → typeOf b ≡ typed enforced j → typeOf c ≡ typed enforced k → Ruled (fulfilling n a b c)
-  fulfilling-ruled n a b c p x q r =
+  fulfilling-ruled : (n : ℕ) (a b c : Policy) {i j k : Bound} → typeOf a ≡ typed watched i → typeOf b ≡ typed enforced j
+      → typeOf c ≡ typed enforced k → Ruled (fulfilling n a b c)
+  fulfilling-ruled n a b c p q r =
       record {
         parts = (typed-as p, typed-as q, typed-as r);
         positive = tt;
         trips =
             λ w.
-            rw (watched-trips a p, enforced-trips b q, enforced-trips c r, p, q, r, x)
+            rw (watched-trips a p, enforced-trips b q, enforced-trips c r, p, q, r)
             (not-within n (first (satisfies propositions a) w) (satisfies propositions b) (satisfies propositions c) w);
       }
-
-  fulfilling-from : (n : ℕ) (a b c : Policy) (i : Bound) {m : Mode} {l : Bound} → typeOf a ≡ typed watched i
-      → ifEnforced (typeOf b) (λ j. ifEnforced (typeOf c) (λ k. cond (exactly i n) (typed enforced (plus (finite n) (larger j k))) untyped))
-      ≡ typed m l
-      → Ruled (fulfilling n a b c)
-  fulfilling-from n a b c i p e =
-      let g = from-enforced (typeOf b) _ e in
-      let f = from-enforced (typeOf c) _ (g .2) in
-      fulfilling-ruled n a b c p (from-cond (exactly i n) _ (f .2) .0) (g .1) (f .1)
 
   ruled : (p : Policy) {m : Mode} {k : Bound} → typeOf p ≡ typed m k → Ruled p
   ruled (now f) e = record { parts = tt; positive = tt; trips = λ w. refl }
@@ -150,7 +141,7 @@ module _ (propositions : ℕ → ℕ) where
   ruled (before+ a b) e = let h = from-watched (typeOf a) _ e in before+-ruled a b (h .1) (from-enforced (typeOf b) _ (h .2) .1)
   ruled (after- a b) e = let h = from-watched (typeOf a) _ e in after-ruled a b (h .1) (from-watched (typeOf b) _ (h .2) .1)
   ruled (after+ a b) e = let h = from-watched (typeOf a) _ e in after+-ruled a b (h .1) (from-enforced (typeOf b) _ (h .2) .1)
-  ruled (fulfilling n a b c) e = let h = from-watched (typeOf a) _ e in fulfilling-from n a b c (h .0) (h .1) (h .2)
+  ruled (fulfilling n a b c) e = let t = fulfilling-typed n a b c .0 e in fulfilling-ruled n a b c (t .watched-a) (t .enforced-b) (t .enforced-c)
   ruled (ignoring f b) e = ignoring-ruled f b (from-typed (typeOf b) _ e .2)
 
   -- the rule of a well-typed policy has well-typed parts, counts from one up, and trips where the policy does

@@ -1,11 +1,13 @@
 -- Which types the parts of a policy have where the whole has one: figure 4's rules, read from the bottom up.
 -- Assumes nothing.
 use mathlib.Core.Path.{_≡_, refl}
+use mathlib.Core.Logic.{_↔_}
 use mathlib.Core.Bool.{Bool, true, false, cond}
 use Prim.Native.Nat.{ℕ}
 use native.Mathlib.Omega.{arith}
-use Rattle.policy.specs.Policy.{Policy}
+use Rattle.policy.specs.Policy.{Policy, fulfilling}
 use Rattle.policy.specs.Typing.{Mode, watched, enforced, Bound, Typing, typed, untyped, ifTyped, ifWatched, ifEnforced, onMode, typeOf}
+use Rattle.policy.specs.Waits.{FulfillingTyped}
 use Rattle.policy.specs.Trips.{Typed}
 
 not-typed : {A : Type 0} {m : Mode} {k : Bound} → untyped ≡ typed m k → A
@@ -39,3 +41,25 @@ from-cond false s e = not-typed e
 
 pub typed-as : {p : Policy} {m : Mode} {k : Bound} → typeOf p ≡ typed m k → Typed p
 typed-as {m} {k} e = record { mode = m; bound = k; has = e }
+
+-- Fulfilling has a type exactly where its parts have the types that it asks for.
+module _ (k : ℕ) (a b c : Policy) {m : Mode} {bound : Bound} where
+  fulfilling-parts : typeOf (fulfilling k a b c) ≡ typed m bound → FulfillingTyped k a b c m bound
+  fulfilling-parts e =
+      let f = from-watched (typeOf a) _ e in
+      let g = from-enforced (typeOf b) _ (f .2) in
+      let h = from-enforced (typeOf c) _ (g .2) in
+      let d = h .2 in
+      record {
+        enforced-whole = cc;
+        ka = f .0;
+        kb = g .0;
+        kc = h .0;
+        watched-a = f .1;
+        enforced-b = g .1;
+        enforced-c = h .1;
+        bound-is = cc;
+      }
+
+  pub fulfilling-typed : (typeOf (fulfilling k a b c) ≡ typed m bound) ↔ FulfillingTyped k a b c m bound
+  fulfilling-typed = (fulfilling-parts, λ t. rw (t .watched-a, t .enforced-b, t .enforced-c, t .enforced-whole, t .bound-is))

@@ -11,6 +11,7 @@ use native.Mathlib.Nat.{le-of-suc-le-suc, not-suc-le-zero, zero-lt-suc}
 use lib.ListN.{length, take, drop}
 use Rattle.trace.proofs.Laws.{not-both}
 use Rattle.policy.specs.Words.{Property, someSuffix, everySuffix, one-more, first, without}
+use Rattle.policy.specs.Waits.{Shortest}
 
 -- tests
 or-left : (b c : Bool) → b ≡ true → (b || c) ≡ true
@@ -103,11 +104,6 @@ never true r e = (cc, cc)
 never false none e = (refl, refl)
 never false (some m) e = (cc, cc)
 
-module _ (P : Property) (w : List ℕ) where
-  -- the prefix of n actions satisfies P, and no shorter one does
-  abbrev pub Shortest : ℕ → Type 0
-  Shortest n = (n ≤ length w) × (P (take n w) ≡ true) × ((m : ℕ) → m < n → P (take m w) ≡ false)
-
 none-some : {A : Type 0} {n : ℕ} → _≡_ {A = Option ℕ} none (some n) → A
 none-some e = absurd (let z : _≡_ {A = ℕ} 0 1 = cc in omega arith)
 
@@ -134,8 +130,7 @@ is-first (a ∷ w) P (suc n) h =
     ap₂ (λ (b : Bool) (r : Option ℕ). cond b (some 0) (one-more r)) (h .2 0 (zero-lt-suc n))
     (is-first w (λ u. P (a ∷ u)) n (le-of-suc-le-suc (h .0), h .1, λ m g. h .2 (suc m) (suc-le-suc g)))
 
-pub first-some : (P : Property) (w : List ℕ) (n : ℕ)
-    → first P w ≡ some n ↔ (n ≤ length w) × (P (take n w) ≡ true) × ((m : ℕ) → m < n → P (take m w) ≡ false)
+pub first-some : (P : Property) (w : List ℕ) (n : ℕ) → first P w ≡ some n ↔ Shortest P w n
 first-some P w n = (shortest w P n, is-first w P n)
 
 no-prefix : (w : List ℕ) (P : Property) → first P w ≡ none → (n : ℕ) → P (take n w) ≡ false

@@ -2,6 +2,7 @@ pub mod Formula
 pub mod Words
 pub mod Policy
 pub mod Typing
+pub mod Waits
 pub mod Rule
 pub mod Value
 pub mod Parts

@@ -1,9 +1,8 @@
 -- Types and bounds of policies (docs/FORMATS.md, "Policies", columns 'type' and 'bound'; Xu and Fong, figure 4).
 -- Assumes nothing.
-use mathlib.Core.Bool.{Bool, true, false, cond, not}
-use mathlib.Core.List.{List}
+use mathlib.Core.Bool.{Bool, cond, not}
 use Prim.Native.Nat.{ℕ, _+_, max}
-use lib.Dec.{eqb, leb}
+use lib.Dec.{leb}
 -- watched (Xu and Fong's mon): trips when it becomes satisfied; enforced (enf): trips when it becomes violated
 pub use Rattle.trace.specs.declared.Mode.{Mode}
 pub use Rattle.trace.specs.declared.Mode.the-variants.{Watched as watched, Enforced as enforced}
@@ -48,11 +47,6 @@ ifEnforced t f = ifTyped t (λ m k. onMode m untyped (f k))
 abbrev pub alikeTyped : Typing → Typing → Typing
 alikeTyped s t = ifTyped s (λ m j. onMode m (ifWatched t (λ k. typed watched (larger j k))) (ifEnforced t (λ k. typed enforced (larger j k))))
 
--- the bound is exactly k
-abbrev pub exactly : Bound → ℕ → Bool
-exactly (finite j) k = eqb j k
-exactly unbounded k = false
-
 -- the typing of each kind by those of its parts
 abbrev pub typeNow : Typing
 typeNow = typed watched (finite 1)
@@ -85,9 +79,9 @@ typeAfter- s t = ifWatched s (λ j. ifWatched t (λ k. typed watched (plus j k))
 abbrev pub typeAfter+ : Typing → Typing → Typing
 typeAfter+ s t = ifWatched s (λ j. ifEnforced t (λ k. typed enforced (plus j k)))
 
+-- a waits for n actions at most, whatever its own bound
 abbrev pub typeFulfilling : ℕ → Typing → Typing → Typing → Typing
-typeFulfilling n s t u =
-    ifWatched s (λ i. ifEnforced t (λ j. ifEnforced u (λ k. cond (exactly i n) (typed enforced (plus (finite n) (larger j k))) untyped)))
+typeFulfilling n s t u = ifWatched s (λ i. ifEnforced t (λ j. ifEnforced u (λ k. typed enforced (plus (finite n) (larger j k)))))
 
 abbrev pub typeIgnoring : Typing → Typing
 typeIgnoring t = ifTyped t (λ m k. typed m unbounded)

@@ -40,7 +40,7 @@ fn tell_fault(fault: Fault) {
         ),
         Fault::WrongTypeAt(node) => tell_node(
             node,
-            b" has a part of the wrong type or a number that is not the bound of its first part, or is the last one and a formula: rewrite the rule\n",
+            b" has a part of the wrong type, or is the last one and a formula: rewrite the rule\n",
         ),
         Fault::BoundAt(node) => tell_node(
             node,

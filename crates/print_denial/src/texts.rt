@@ -15,7 +15,6 @@ use rule_files::read_rule;
 use rule_files::room_for_sheet;
 use rule_files::say_refusal;
 use rule_files::say_spot;
-use rule_files::tell_fault;
 use rule_files::tell_rows;
 use rule_files::tell_rules;
 use rule_files::tell_values;
@@ -75,10 +74,7 @@ fn ask_sheet(text: &[u8], place: Place, sheet: &[u8], list: &[u8]) -> Asked
         Explained::WatchedSheet => return Asked::Watched,
         Explained::NoAction => return Asked::WrongList,
         Explained::ShortArea => say_refusal(14, 0),
-        Explained::Faulty(fault) => {
-            say_refusal(fault_number(fault), fault_spot(fault));
-            tell_fault(fault, text, place, sheet);
-        }
+        Explained::Faulty(fault) => say_refusal(fault_number(fault), fault_spot(fault)),
         Explained::TooManyValues(node) => {
             say_refusal(8, node);
             tell_values(text, place, sheet, node);

@@ -6,7 +6,6 @@ use rule_files::read_rule;
 use rule_files::room_for_bytes;
 use rule_files::room_for_sheet;
 use rule_files::room_for_values;
-use rule_files::tell_fault;
 use rule_files::tell_rows;
 use rule_files::tell_values;
 ghost use mathlib.Core.Path.{_≡_};
@@ -40,12 +39,11 @@ fn table_length(compiled: Compiled) -> usize
     8 + rows * actions
 }
 
-// What compiling the sheet of a text answers, where that is a refusal.
+// What compiling the sheet of a text answers, where that is a refusal: 8 or 9.
 fn tell_compiled(compiled: Compiled, text: &[u8], place: Place, sheet: &[u8])
     requires { ⌜ (length (now text) ≤ 65535) × (place .line ≤ 65537) ⌝ }
 {
     match compiled {
-        Compiled::Faulty(fault) => tell_fault(fault, text, place, sheet),
         Compiled::TooManyValues(node) => tell_values(text, place, sheet, node),
         Compiled::TooManyRows(node) => tell_rows(text, place, sheet, node),
         _ => {}

@@ -46,7 +46,6 @@ pub use rooms::room_for_actions;
 pub use rooms::room_for_bytes;
 pub use rooms::room_for_sheet;
 pub use rooms::room_for_values;
-pub use sizes::tell_fault;
 pub use sizes::tell_rows;
 pub use sizes::tell_values;
 pub use words::Span;

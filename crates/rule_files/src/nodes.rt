@@ -2,8 +2,6 @@
 // of its parts, and a node behind its parts.
 use crate::output::say;
 use crate::output::say_number;
-use policy::Bound;
-use syntax::NodeType;
 ghost use mathlib.Core.Path.{_≡_};
 ghost use Prim.Native.Nat.{_+_, _≤_, _<_};
 ghost use lib.ListN.{length};
@@ -184,16 +182,5 @@ pub fn say_part(sheet: &[u8], node: usize) {
         say_node(sheet, next);
         count = push_parts(sheet, next, &mut stack, count);
         said += 1;
-    }
-}
-
-// The bound of a node's first part.
-pub fn bound_under(sheet: &[u8], node: usize) -> Bound {
-    let judged = sheet::judge(sheet);
-    let types = judged.types;
-    match syntax::type_at(types, first_part(sheet, node)) {
-        NodeType::Policy(_, bound) => bound,
-        NodeType::Formula => Bound::Unbounded,
-        NodeType::Unused => Bound::Unbounded,
     }
 }

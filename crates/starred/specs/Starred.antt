@@ -75,6 +75,10 @@ starred =
     ∷ enforced four (drop ∷ Now 0 ∷ Eventually 1 ∷ charge ∷ Negation 3 ∷ Holds 4 ∷ Always 5 ∷ AfterPlus 2 6 ∷ []) (row 0 1 0 0 ∷ row x 1 1 1 ∷ [])
     -- Fulfilling 1 (Now log) (Holds true) (Always Holds not drop)
     ∷ enforced four (log ∷ Now 0 ∷ True ∷ Holds 2 ∷ drop ∷ Negation 4 ∷ Holds 5 ∷ Always 6 ∷ Fulfilling 1 1 3 7 ∷ []) (row 1 1 1 2 ∷ row 1 x 1 1 ∷ row 2 2 2 2 ∷ [])
+    -- Fulfilling 2 (Now log) (Holds true) (Always Holds not drop)
+    ∷ enforced four (log ∷ Now 0 ∷ True ∷ Holds 2 ∷ drop ∷ Negation 4 ∷ Holds 5 ∷ Always 6 ∷ Fulfilling 2 1 3 7 ∷ []) (row 1 1 1 2 ∷ row 3 3 3 3 ∷ row 2 2 2 2 ∷ row 3 x 3 3 ∷ [])
+    -- Fulfilling 3 (Eventually Now log) (Holds true) (Always Holds not drop)
+    ∷ enforced four (log ∷ Now 0 ∷ Eventually 1 ∷ True ∷ Holds 3 ∷ drop ∷ Negation 5 ∷ Holds 6 ∷ Always 7 ∷ Fulfilling 3 2 4 8 ∷ []) (row 1 1 1 2 ∷ row 3 3 3 2 ∷ row 2 2 2 2 ∷ row 4 4 4 2 ∷ row 4 x 4 4 ∷ [])
     -- Ignoring log (Holds drop)
     ∷ enforced four (log ∷ drop ∷ Holds 1 ∷ Ignoring 0 2 ∷ []) (row x 1 x 0 ∷ row 1 1 1 1 ∷ [])
     ∷ []

@@ -1,7 +1,6 @@
 -- Laws of parts that have to be of a mode.
 -- Assumes nothing.
 use mathlib.Core.Path.{_≡_, refl, sym, ap, _∙_}
-use mathlib.Core.Bool.{true, false, cond}
 use Prim.Native.Nat.{ℕ}
 use native.Mathlib.Omega.{arith}
 use Rattle.trace.specs.declared.Mode.{Mode}
@@ -10,7 +9,7 @@ use Rattle.policy.specs.declared.Bound.{Bound}
 use Rattle.policy.specs.declared.Bound.the-variants.{Finite}
 use Rattle.policy.specs.declared.Typing.{Typing}
 use Rattle.policy.specs.declared.Typing.the-variants.{Typed, Untyped}
-use Rattle.policy.specs.Typing.{larger, plus, onMode, ifWatched, ifEnforced, alikeTyped, exactly, typeAfter-, typeAfter+, typeFulfilling}
+use Rattle.policy.specs.Typing.{larger, plus, onMode, ifWatched, ifEnforced, alikeTyped, typeAfter-, typeAfter+, typeFulfilling}
 use Rattle.syntax.specs.Types.{onlyAs}
 
 not-typed : {A : Type 0} {m : Mode} {k : Bound} → Untyped ≡ Typed m k → A
@@ -80,28 +79,24 @@ module _ (m : Mode) (s t : Typing) where
         by Watched e = watched-as s (λ j. ifWatched t (λ k. Typed Watched (plus j k))) a ∙ watched-as t (λ k. Typed Watched (plus j k)) e
         by Enforced e = watched-as s (λ j. ifEnforced t (λ k. Typed Enforced (plus j k))) a ∙ enforced-as t (λ k. Typed Enforced (plus j k)) e
 
--- kind 22, its parts one after the other
+-- kind 22, its parts one after the other; the bound of a is not asked for
 module _ (n : ℕ) (s t u : Typing) where
-  abbrev timed : Bound → Bound → Bound → Typing
-  timed i j k = cond (exactly i n) (Typed Enforced (plus (Finite n) (larger j k))) Untyped
+  abbrev timed : Bound → Bound → Typing
+  timed j k = Typed Enforced (plus (Finite n) (larger j k))
 
   pub not-fulfilling-a : onlyAs Watched s ≡ Untyped → typeFulfilling n s t u ≡ Untyped
-  not-fulfilling-a e = not-watched s (λ i. ifEnforced t (λ j. ifEnforced u (λ k. timed i j k))) e
+  not-fulfilling-a e = not-watched s (λ i. ifEnforced t (λ j. ifEnforced u (λ k. timed j k))) e
 
   module _ {m : Mode} {i : Bound} (a : onlyAs Watched s ≡ Typed m i) where
     pub not-fulfilling-b : onlyAs Enforced t ≡ Untyped → typeFulfilling n s t u ≡ Untyped
-    not-fulfilling-b e = watched-as s (λ i. ifEnforced t (λ j. ifEnforced u (λ k. timed i j k))) a ∙ not-enforced t (λ j. ifEnforced u (λ k. timed i j k)) e
+    not-fulfilling-b e = watched-as s (λ i. ifEnforced t (λ j. ifEnforced u (λ k. timed j k))) a ∙ not-enforced t (λ j. ifEnforced u (λ k. timed j k)) e
 
     module _ {l : Mode} {j : Bound} (b : onlyAs Enforced t ≡ Typed l j) where
-      fulfilling-ab : typeFulfilling n s t u ≡ ifEnforced u (λ k. timed i j k)
-      fulfilling-ab = watched-as s (λ i. ifEnforced t (λ j. ifEnforced u (λ k. timed i j k))) a ∙ enforced-as t (λ j. ifEnforced u (λ k. timed i j k)) b
+      fulfilling-ab : typeFulfilling n s t u ≡ ifEnforced u (λ k. timed j k)
+      fulfilling-ab = watched-as s (λ i. ifEnforced t (λ j. ifEnforced u (λ k. timed j k))) a ∙ enforced-as t (λ j. ifEnforced u (λ k. timed j k)) b
 
       pub not-fulfilling-c : onlyAs Enforced u ≡ Untyped → typeFulfilling n s t u ≡ Untyped
-      not-fulfilling-c e = fulfilling-ab ∙ not-enforced u (λ k. timed i j k) e
+      not-fulfilling-c e = fulfilling-ab ∙ not-enforced u (λ k. timed j k) e
 
-      module _ {o : Mode} {k : Bound} (c : onlyAs Enforced u ≡ Typed o k) where
-        pub fulfilling-abc : exactly i n ≡ true → typeFulfilling n s t u ≡ Typed Enforced (plus (Finite n) (larger j k))
-        fulfilling-abc e = fulfilling-ab ∙ enforced-as u (λ k. timed i j k) c ∙ rw e
-
-        pub not-fulfilling-k : exactly i n ≡ false → typeFulfilling n s t u ≡ Untyped
-        not-fulfilling-k e = fulfilling-ab ∙ enforced-as u (λ k. timed i j k) c ∙ rw e
+      pub fulfilling-abc : {o : Mode} {k : Bound} → onlyAs Enforced u ≡ Typed o k → typeFulfilling n s t u ≡ Typed Enforced (plus (Finite n) (larger j k))
+      fulfilling-abc c = fulfilling-ab ∙ enforced-as u (λ k. timed j k) c

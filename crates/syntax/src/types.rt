@@ -7,7 +7,7 @@ use policy::Bound;
 use policy::Typing;
 use trace::Mode;
 ghost use mathlib.Core.Path.{_≡_};
-ghost use Rattle.policy.specs.Typing.{exactly, plus, onMode, alikeTyped, typeCount, typeNot, typeEventually, typeAlways, typeBefore-, typeBefore+, typeAfter-, typeAfter+, typeFulfilling, typeIgnoring};
+ghost use Rattle.policy.specs.Typing.{plus, onMode, alikeTyped, typeCount, typeNot, typeEventually, typeAlways, typeBefore-, typeBefore+, typeAfter-, typeAfter+, typeFulfilling, typeIgnoring};
 ghost use Rattle.policy.specs.declared.Typing.the-variants.{Typed};
 ghost use Rattle.syntax.specs.Types.{typeAt, typingOf, ifFormula, boundFits, typeNode, onlyAs};
 
@@ -216,21 +216,11 @@ fn found_after(mode: Mode, s: Typing, t: Typing) -> TypeFound
     found_sum(mode, j, k)
 }
 
-// Whether a bound is exactly k.
-fn is_bound(b: Bound, k: u16) -> bool
-    ensures { λ r. ⌜ r ≡ exactly b k ⌝ }
-{
-    match b {
-        Bound::Finite(j) => j == k,
-        Bound::Unbounded => false,
-    }
-}
-
-// Checks 6 and 7 of Fulfilling.
+// Checks 6 and 7 of Fulfilling: a may have any bound, and k is that of the wait.
 fn found_fulfilling(k: u8, s: Typing, t: Typing, u: Typing) -> TypeFound
     ensures { λ r. ⌜ r ≡ Rattle.syntax.specs.Types.found (typeFulfilling k s t u) ⌝ }
 {
-    let Typing::Typed(_, i) = only(Mode::Watched, s) else {
+    let Typing::Typed(_, _) = only(Mode::Watched, s) else {
         return TypeFound::Unfit;
     };
     let Typing::Typed(_, j) = only(Mode::Enforced, t) else {
@@ -240,11 +230,7 @@ fn found_fulfilling(k: u8, s: Typing, t: Typing, u: Typing) -> TypeFound
         return TypeFound::Unfit;
     };
     let most = k as u16;
-    if is_bound(i, most) {
-        found_sum(Mode::Enforced, Bound::Finite(most), larger(j, l))
-    } else {
-        TypeFound::Unfit
-    }
+    found_sum(Mode::Enforced, Bound::Finite(most), larger(j, l))
 }
 
 // Checks 6 and 7 of a node, the nodes before it having `types`.

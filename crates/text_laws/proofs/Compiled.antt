@@ -11,10 +11,8 @@ use Rattle.trace.specs.Trace.{Sequence}
 use Rattle.trace.specs.declared.Mode.{Mode}
 use Rattle.policy.specs.Policy.{Policy, satisfies}
 use Rattle.table.specs.Table.{typeOf, actionsOf, verdict}
-use Rattle.table.specs.Answer.{accepted, refused, modeNumber}
-use Rattle.typing.specs.Typed.{faulty, sound}
-use Rattle.syntax.specs.Faults.{numberOf}
-use Rattle.syntax.specs.declared.Fault.{Fault}
+use Rattle.table.specs.Answer.{Answer, accepted, refused, modeNumber}
+use Rattle.typing.specs.Typed.{sound}
 use Rattle.syntax.specs.declared.Sheet.{Sheet}
 use Rattle.syntax.specs.declared.TypedNode.{TypedNode}
 use Rattle.sheet.specs.Judge.{judge}
@@ -22,18 +20,19 @@ use Rattle.grammar.specs.Words.{wordsOf}
 use Rattle.grammar.specs.Grammar.{Rule, Reads}
 use Rattle.grammar.specs.Sheets.{sheetFor}
 use Rattle.grammar.specs.declared.Category.the-variants.{Text}
+use Rattle.making.specs.Making.{IsTable}
 use Rattle.compiler.specs.Compiles.{values, rows, Builds, stops, builds, Compiles, faulted, passes}
 use Rattle.compiler.specs.Calling.{CompilesInto}
-use Rattle.compiler_laws.specs.Demands.{ReadAs, OneActionList, SameSatisfied}
+use Rattle.compiler_laws.specs.Demands.{ReadAs, NoneOver, OneActionList, SameSatisfied}
 use Rattle.compiler_laws.proofs.CompiledTable.{TableOf, compiled-table}
-use Rattle.compiler_laws.proofs.Demands.{same-table-exactly}
+use Rattle.compiler_laws.proofs.Demands.{none-over, table-exactly-unless-refused, same-table-exactly}
 use Rattle.compiler_laws.proofs.Calls.{table-in-output}
 use Rattle.histories.specs.Policies.{satisfiesSheet}
 use Rattle.text_sheets.proofs.Padded.{text-propositions}
 use Rattle.text_sheets.proofs.Meanings.{text-policy}
 use Rattle.text_reader.specs.Calling.{written, ReadsInto}
 use Rattle.text_laws.specs.Passing.{Narrow, satisfiesOver}
-use Rattle.text_laws.proofs.Passing.{text-sound-as, text-only-6}
+use Rattle.text_laws.proofs.Passing.{text-sound, text-sound-as, text-never-faulty}
 
 -- the mode of a sheet that is compiled
 record Moded (bytes : List ℕ) (type : ℕ) : Type 0 where
@@ -81,23 +80,30 @@ module _ {text actions out out′ : List ℕ} {bytes count nodes : ℕ} (call : 
   pub text-compiled-actions : actionsOf table ≡ length actions
   text-compiled-actions = table-of .actions-are ∙ table-of .listed
 
--- a refusal of compiling where a fault can only be 6
+-- a refusal of building: 8 or 9
 over-number : {mode : Mode} {sheet : Sheet} {types : List TypedNode} {valueLimit rowLimit number spot : ℕ} {table : List ℕ}
     → Builds mode sheet types valueLimit rowLimit (refused number spot) table → (number ≡ 8) ⊎ (number ≡ 9)
 over-number (stops tables n number h built p (values over)) = inl refl
 over-number (stops tables n number h built p (rows few over)) = inr refl
 
-refused-number : (bytes : List ℕ) {valueLimit rowLimit number spot : ℕ} {table : List ℕ} → ((f : Fault) → judge bytes ≡ faulty f → numberOf f ≡ 6)
-    → Compiles bytes valueLimit rowLimit (refused number spot) table → (number ≡ 6) ⊎ ((number ≡ 8) ⊎ (number ≡ 9))
-refused-number bytes only (faulted f e) = inl (only f e)
-refused-number bytes only (passes mode sheet types j answer table b) = inr (over-number b)
-
 module _ {text actions out out′ : List ℕ} {bytes count nodes : ℕ} (call : ReadsInto text actions out (written bytes count nodes) out′) {rule : Rule}
     (read : Reads Text (wordsOf text) rule) (narrow : Narrow actions) where
-  -- The sheet of a text is refused by 6, 8 or 9 only.
+  -- The sheet of a text is refused by 8 or 9 only.
   pub text-refused-by : {valueLimit rowLimit number spot : ℕ} {table : List ℕ} → Compiles (take bytes out′) valueLimit rowLimit (refused number spot) table
-      → (number ≡ 6) ⊎ ((number ≡ 8) ⊎ (number ≡ 9))
-  text-refused-by c = refused-number (take bytes out′) (λ f e. ap numberOf (text-only-6 call read narrow e .six)) c
+      → (number ≡ 8) ⊎ (number ≡ 9)
+  text-refused-by (faulted f e) = absurd (text-never-faulty call read narrow f e)
+  text-refused-by (passes mode sheet types j answer table b) = over-number b
+
+  -- It is compiled exactly when no node of it is over a limit.
+  pub text-table-exactly : {valueLimit rowLimit : ℕ} {answer : Answer} {table : List ℕ} → Compiles (take bytes out′) valueLimit rowLimit answer table
+      → IsTable answer ↔ NoneOver (sheetFor actions (rule .policy)) (text-sound call read narrow .0) valueLimit rowLimit
+  text-table-exactly {valueLimit} {rowLimit} c = (
+    λ t. none-over (take bytes out′) valueLimit rowLimit (table-exactly-unless-refused (take bytes out′) valueLimit rowLimit c .0 t) (text-sound call read narrow .1),
+    λ n. table-exactly-unless-refused (take bytes out′) valueLimit rowLimit c .1 (record { sheet = sheetFor actions (rule .policy); read = sound-read; none = n }),
+  )
+    where
+      sound-read : ReadAs (take bytes out′) (sheetFor actions (rule .policy))
+      sound-read = record { mode = rule .mode; types = text-sound call read narrow .0; judged = text-sound call read narrow .1 }
 
   -- The table that the call writes into its output gives the verdict of the policy that the words are read as.
   pub text-call-compiled : {lent work values lent′ work′ values′ : List ℕ} {type n rows : ℕ}

@@ -2,7 +2,6 @@ pub mod Outcomes
 pub mod Exactly
 pub mod FewWords
 pub mod Written
-pub mod FirstWait
 pub mod Passing
 pub mod Compiled
 pub mod Boards

@@ -12,7 +12,6 @@ use Rattle.typing.specs.Typed.{judgeSheet}
 use Rattle.syntax.specs.declared.Sheet.{Sheet}
 use Rattle.sheet.specs.ReadFrom.{ReadFrom}
 use Rattle.sheet.specs.Judge.{judge}
-use Rattle.text_sheets.specs.Waits.{WrongWait}
 
 -- Each action's propositions are 16 bits.
 abbrev pub Narrow : List ℕ → Type 0
@@ -27,12 +26,6 @@ pub record PassesFive (actions : List ℕ) (policy : Policy) (bytes : List ℕ) 
   pub means : sheetPolicy sheet ≡ policy
   pub count : sheet .actions ≡ length actions
   pub propositions : (a : ℕ) → propositionsOf sheet a ≡ getD actions a 0
-
--- Node n is the first Fulfilling that names another number than its first part's bound.
-pub record FirstWrongWait (sheet : Sheet) (n : ℕ) : Type 0 where
-  pub listed : n < sheet .count
-  pub wait : WrongWait sheet n
-  pub first : (m : ℕ) → m < n → WrongWait sheet m → ⊥
 
 -- The sequence satisfies the policy, over the lent actions.
 abbrev pub satisfiesOver : List ℕ → Policy → List ℕ → Bool

@@ -1,13 +1,13 @@
 -- Laws of bounds that are at most 60 a node: such a bound fits a sheet of 64 nodes.
 -- Assumes nothing.
-use mathlib.Core.Path.{_≡_, refl, ap, _∙_}
-use mathlib.Core.Bool.{true, false}
+use mathlib.Core.Path.{_≡_, refl, _∙_}
+use mathlib.Core.Bool.{true}
 use Prim.Native.Nat.{ℕ, _+_, _*_, _≤_}
 use native.Mathlib.Omega.{arith}
-use borrow.Author.Tests.{le-leb, eqb-true, eqb-false}
+use borrow.Author.Tests.{le-leb}
 use Rattle.trace.specs.declared.Mode.{Mode}
 use Rattle.policy.specs.Policy.{Policy as APolicy}
-use Rattle.policy.specs.Typing.{larger, plus, exactly, typeOf}
+use Rattle.policy.specs.Typing.{larger, plus, typeOf}
 use Rattle.policy.specs.declared.Bound.{Bound}
 use Rattle.policy.specs.declared.Bound.the-variants.{Finite as finite, Unbounded as unbounded}
 use Rattle.policy.specs.declared.Typing.{Typing}
@@ -17,7 +17,7 @@ use Rattle.syntax.specs.declared.NodeType.{NodeType}
 use Rattle.syntax.specs.declared.NodeType.the-variants.{Policy}
 use Rattle.syntax.specs.declared.TypeFound.{TypeFound}
 use Rattle.syntax.specs.declared.TypeFound.the-variants.{Fits}
-use Rattle.text_sheets.specs.Waits.{AtMost}
+use Rattle.text_sheets.specs.Bounds.{AtMost}
 
 pub low-more : (k : Bound) (x y : ℕ) → x ≤ y → AtMost k x → AtMost k y
 low-more (finite k) x y h l = omega arith
@@ -33,18 +33,13 @@ low-plus (finite j) (finite k) x y z h l m = omega arith
 low-plus (finite j) unbounded x y z h l m = tt
 low-plus unbounded k x y z h l m = tt
 
+-- a wait of n actions, and then the larger of two
+pub low-wait : (n : ℕ) (j k : Bound) (x y z : ℕ) → 60 + (x + y) ≤ z → n ≤ 60 → AtMost j x → AtMost k y → AtMost (plus (finite n) (larger j k)) z
+low-wait n j k x y z h l p q = low-plus (finite n) (larger j k) 60 (x + y) z h l (low-larger j k x y (x + y) (omega arith) p q)
+
 low-fits : (k : Bound) (size : ℕ) → size ≤ 64 → AtMost k (60 * size) → boundFits k ≡ true
 low-fits (finite k) size h l = le-leb k 65534 (omega arith)
 low-fits unbounded size h l = refl
-
--- the bound is exactly k, or not
-pub exactly-true : (j : Bound) (k : ℕ) → exactly j k ≡ true → j ≡ finite k
-exactly-true (finite j) k e = ap finite (eqb-true j k e)
-exactly-true unbounded k e = cc
-
-pub exactly-false : (j : Bound) (k : ℕ) → exactly j k ≡ false → j ≡ finite k → ⊥
-exactly-false (finite j) k e p = eqb-false j k e (cc)
-exactly-false unbounded k e p = let z : _≡_ {A = ℕ} 0 1 = cc in omega arith
 
 -- The type t of a node is that of policy p, of mode m, with a bound that is low for so many nodes.
 pub record IsPolicy (m : Mode) (p : APolicy) (size : ℕ) (t : NodeType) : Type 0 where
@@ -64,7 +59,7 @@ pub found-policy : {m : Mode} {p : APolicy} {size : ℕ} (s : Typing) (k : Bound
 found-policy {m} {p} {size} s k e type h low =
     record { type = Policy m k; fits = rw (e, low-fits k size h low); has = record { bound = k; is = refl; type = type; low = low } }
 
--- a policy over one, and over two: its typing is made of theirs
+-- a policy over one, two and three: its typing is made of theirs
 module _ {o : Mode} {p : APolicy} {size : ℕ} {m : Mode} {a : APolicy} {s : ℕ} {t : NodeType} where
   pub over-one : (F : Typing → Typing) (x : IsPolicy m a s t) {k : Bound} → F (typed m (x .bound)) ≡ typed o k → typeOf p ≡ F (typeOf a) → size ≤ 64
       → AtMost k (60 * size) → Found (IsPolicy o p size) (found (F (typingOf t)))
@@ -74,3 +69,9 @@ module _ {o : Mode} {p : APolicy} {size : ℕ} {m : Mode} {a : APolicy} {s : ℕ
       → F (typed m (x .bound)) (typed n (y .bound)) ≡ typed o k → typeOf p ≡ F (typeOf a) (typeOf b) → size ≤ 64 → AtMost k (60 * size)
       → Found (IsPolicy o p size) (found (F (typingOf t) (typingOf u)))
   over-two {u = u} F x y {k} e q h low = found-policy (F (typingOf t) (typingOf u)) k (rw (x .is, y .is) e) (q ∙ rw (x .type, y .type) e) h low
+
+  pub over-three : {n : Mode} {b : APolicy} {r : ℕ} {u : NodeType} {l : Mode} {c : APolicy} {i : ℕ} {v : NodeType} (F : Typing → Typing → Typing → Typing)
+      (x : IsPolicy m a s t) (y : IsPolicy n b r u) (z : IsPolicy l c i v) {k : Bound} → F (typed m (x .bound)) (typed n (y .bound)) (typed l (z .bound)) ≡ typed o k
+      → typeOf p ≡ F (typeOf a) (typeOf b) (typeOf c) → size ≤ 64 → AtMost k (60 * size) → Found (IsPolicy o p size) (found (F (typingOf t) (typingOf u) (typingOf v)))
+  over-three {u = u} {v = v} F x y z {k} e q h low =
+      found-policy (F (typingOf t) (typingOf u) (typingOf v)) k (rw (x .is, y .is, z .is) e) (q ∙ rw (x .type, y .type, z .type) e) h low

@@ -7,7 +7,5 @@ pub mod AllUsed
 pub mod Bounds
 pub mod Blocks
 pub mod Wholes
-pub mod Waited
 pub mod TypedNodes
-pub mod TypedWaits
 pub mod TextTyped

@@ -1,2 +1,2 @@
 pub mod Setting
-pub mod Waits
+pub mod Bounds

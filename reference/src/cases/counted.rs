@@ -8,17 +8,17 @@ use crate::trees::*;
 const THREE: [u16; 3] = [1, 2, 0];
 
 /// What is known of a policy whose only large node is the last.
-fn outcome(values: usize, rows: usize, spot: usize) -> Stated {
+fn outcome(word: &'static str, values: usize, rows: usize, spot: usize) -> Stated {
     match (values, rows) {
         (1025.., _) => Stated::Refused(8, spot as u8),
         (_, 65..) => Stated::Refused(9, spot as u8),
-        _ => Stated::Rows("mon", rows),
+        _ => Stated::Rows(word, rows),
     }
 }
 
 fn known(name: String, tree: Tree, actions: &[u16], values: usize, rows: usize) -> Case {
     let sheet = tree.sheet(actions);
-    case(&name, sheet.bytes(), outcome(values, rows, sheet.nodes.len() - 1))
+    case(&name, sheet.bytes(), outcome("mon", values, rows, sheet.nodes.len() - 1))
 }
 
 /// After- (Count i) (Count j): i + j values, all of them rows.
@@ -34,7 +34,60 @@ fn fulfilled(i: u8, j: u8) -> Case {
     let tree = fulfilling(i, count(i), then.clone(), then);
     let sheet = not(tree).sheet(&TWO);
     // Where there are too many, node Fulfilling itself is refused, which stands before Not.
-    case(&format!("Not Fulfilling {i} {j}"), sheet.bytes(), outcome(all, all, sheet.nodes.len() - 2))
+    case(&format!("Not Fulfilling {i} {j}"), sheet.bytes(), outcome("mon", all, all, sheet.nodes.len() - 2))
+}
+
+/// Fulfilling k (Ignoring p0 (Count m)) b c: a has a row for each number of p1 below m. It is fulfilled in time, and b
+/// begins, exactly where m is at most k; c always begins, behind k times p0.
+fn waited(name: String, [k, m]: [usize; 2], b: Tree, c: Tree, values: usize, rows: usize) -> Case {
+    let tree = fulfilling(k as u8, ignoring(prop(0), count(m as u8)), b, c);
+    let sheet = tree.sheet(&TWO);
+    case(&name, sheet.bytes(), outcome("enf", values, rows, sheet.nodes.len() - 1))
+}
+
+/// Values while it waits: after n actions 0 to n of them were p1, and fewer than m. Where m is at most k these are
+/// 1 + 2 + .. + m and then m for each n, m * k - m * (m - 1) / 2 in all; else k * (k + 1) / 2.
+fn waiting([k, m]: [usize; 2]) -> usize {
+    if m <= k {
+        m * k - m * (m - 1) / 2
+    } else {
+        k * (k + 1) / 2
+    }
+}
+
+/// Rows while it waits and a can still be fulfilled in time, where b and c are not alike: t actions are left, and s times
+/// p1 is wanted, s at most t. After n actions s is m - n to m, and at least 1.
+fn open([k, m]: [usize; 2]) -> usize {
+    (0..k).map(|n| (m.min(k - n) + 1).saturating_sub(m.saturating_sub(n).max(1))).sum()
+}
+
+/// b and c permit everything and have one row each: the values are many, and the row is one.
+fn idle([k, m]: [usize; 2]) -> Case {
+    let values = waiting([k, m]) + (m <= k) as usize + 1;
+    waited(format!("Fulfilling {k} of {m}, nothing denied"), [k, m], holds(yes()), holds(yes()), values, 1)
+}
+
+/// b permits everything, c denies p1; one row each. Where too few actions are left for a, as many rows as are left.
+fn denied_late([k, m]: [usize; 2]) -> Case {
+    let begins = (m <= k) as usize;
+    let lost = (1..=k).filter(|&left| m > left).count();
+    let (values, rows) = (waiting([k, m]) + begins + 1, open([k, m]) + lost + begins + 1);
+    waited(
+        format!("Fulfilling {k} of {m}, else no p1"),
+        [k, m],
+        holds(yes()),
+        always(holds(but(prop(1)))),
+        values,
+        rows,
+    )
+}
+
+/// b asks for p1 next and has two rows, c permits everything and has one. Its row is that of b behind p1, and that of
+/// a wait with too few actions left.
+fn asked([k, m]: [usize; 2]) -> Case {
+    let begins = (m <= k) as usize;
+    let (values, rows) = (waiting([k, m]) + 2 * begins + 1, open([k, m]) + begins + 1);
+    waited(format!("Fulfilling {k} of {m}, then p1"), [k, m], holds(prop(1)), holds(yes()), values, rows)
 }
 
 /// Or of two counts that each ignore the other's action: both stay below, i * j values, all of them rows.
@@ -79,6 +132,14 @@ pub fn all() -> Vec<Case> {
     all.extend(pairs.iter().map(|&(i, j)| product(i, j)));
     let pairs = [(1, 1), (2, 2), (3, 7), (4, 12), (7, 7), (12, 4), (5, 10), (20, 40), (24, 40), (31, 32), (59, 60)];
     all.extend(pairs.iter().map(|&(i, j)| conjunction(i, j)));
+    // 1,022 values while it waits where k is 50 and m is 28, and nowhere else; 1,023 in the three last.
+    all.extend([[1, 60], [44, 60], [45, 60], [50, 28], [50, 29], [51, 28], [60, 20], [60, 21], [60, 60]].map(idle));
+    all.extend([[57, 22], [48, 31], [47, 33]].map(idle));
+    // m of 3: 3 k - 6 rows while a can be fulfilled, two while it cannot, b and c: 64 where k is 22.
+    let waits = [[2, 3], [8, 8], [31, 2], [32, 2], [22, 3], [23, 3], [20, 5], [60, 1], [60, 21]];
+    all.extend(waits.map(denied_late));
+    // 1,022, two of b and one of c: 1,025.
+    all.extend([[1, 60], [22, 3], [23, 3], [49, 28], [50, 28]].map(asked));
     all.extend([1, 2, 3, 4, 5, 8, 9, 16, 17, 31, 32, 33, 60].map(doubled));
     all
 }

@@ -78,7 +78,7 @@ fn count(k: u8) -> Fields {
 
 /// All of them, denials first.
 pub fn all() -> Vec<DenialCase> {
-    let denials = [places(), parts(), lowest(), shared(), other_kinds(), unused(), long()];
+    let denials = [places(), parts(), lowest(), shared(), other_kinds(), waits(), unused(), long()];
     denials.into_iter().chain([no_action(), compiler(), order(), short_areas()]).flatten().collect()
 }
 
@@ -220,6 +220,39 @@ fn other_kinds() -> Vec<DenialCase> {
         over("Fulfilling over And", &[count(1), [22, 1, 9, 8, 7]], &[1, 0], Denied(1, 10)),
         over("Ignoring over And", &[[3, 3, 0, 0, 0], [23, 0, 9, 8, 0]], &[3, 3, 1], Denied(2, 10)),
         over("Ignoring over And, ignored", &[[3, 3, 0, 0, 0], [23, 0, 9, 8, 0]], &[3, 3, 2], Permitted),
+    ]
+}
+
+/// Fulfilling 2 of an a that has no bound, a log: b is no charge (node 3), c no drop (node 7).
+fn waits() -> Vec<DenialCase> {
+    let log: [Fields; 4] = [[3, 3, 0, 0, 0], [10, 0, 8, 0, 0], [16, 0, 9, 0, 0], [22, 2, 10, 3, 7]];
+    let alone = |name, rest: &[u8], stated| of(name, &both(&log), rest, stated);
+    // With fewer than five actions, and with no drop at all.
+    let few = |name, rest: &[u8], stated| {
+        of(name, &both(&[&log[..], &[count(5), not(12), and(11, 13)]].concat()), rest, stated)
+    };
+    let beside = |name, rest: &[u8], stated| of(name, &both(&[&log[..], &[and(11, 7)]].concat()), rest, stated);
+    vec![
+        alone("a wait of 2: the empty list", &[], Permitted),
+        alone("a wait of 2: anything while it waits", &[0, 1, 0], Permitted),
+        alone("a wait of 2: the second action is not judged by c", &[1, 1], Permitted),
+        alone("a wait of 2: c behind the second action", &[2, 2, 1], Denied(2, 11)),
+        alone("a wait of 2: c, three drops", &[1, 1, 1], Denied(2, 11)),
+        alone("a wait of 2: a log as the third is too late", &[2, 2, 3, 1], Denied(3, 11)),
+        alone("a wait of 2: a log as the third, a charge", &[2, 2, 3, 0], Permitted),
+        alone("a wait of 2: a log as the second is in time", &[2, 3, 1], Permitted),
+        alone("a wait of 2: b behind the second action", &[2, 3, 1, 0], Denied(3, 11)),
+        alone("a wait of 2: b behind the first action", &[3, 0], Denied(1, 11)),
+        alone("a wait of 2: b behind the first, a drop", &[3, 1, 1, 1], Permitted),
+        few("a wait of 2 under And: c", &[2, 2, 1], Denied(2, 11)),
+        few("a wait of 2 under And: too late", &[2, 2, 3, 1], Denied(3, 11)),
+        few("a wait of 2 under And: b", &[2, 3, 1, 0], Denied(3, 11)),
+        few("a wait of 2 under And: in time, four actions", &[2, 3, 1, 1], Permitted),
+        few("a wait of 2 under And: in time, five actions", &[2, 3, 1, 1, 1], Denied(4, 13)),
+        few("a wait of 2 under And: both violated", &[2, 2, 2, 2, 1], Denied(4, 11)),
+        beside("a wait of 2 and c itself under And: in the wait", &[2, 1], Denied(1, 7)),
+        beside("a wait of 2 and c itself under And: behind it", &[2, 2, 1], Denied(2, 7)),
+        beside("a wait of 2 and c itself under And: b", &[3, 0], Denied(1, 11)),
     ]
 }
 

@@ -71,7 +71,7 @@ fn drop() -> Vec<u8> {
 /// All of them. Actions are 0 charge, 1 drop, 2 tray, 3 log; 4, where it is one, is charge and tray.
 pub fn all() -> Vec<History> {
     let refusals = [refusals(), order(), short()];
-    let shifts = [roast(), between(), again(), denials(), combined(), fulfilling(), watched(), eight()];
+    let shifts = [roast(), between(), again(), denials(), combined(), fulfilling(), waits(), watched(), eight()];
     refusals.into_iter().chain(shifts).chain([damaged(), forged(), unread(), other_actions()]).collect()
 }
 
@@ -246,6 +246,41 @@ fn fulfilling() -> History {
             (TakeOff(0), Done),
             (PutOn(0, small_roastery_table("Fulfilling 1 log")), Done),
             (Action(2), Permitted(0)),
+            (Action(1), Denied(0)),
+        ],
+    )
+}
+
+/// Nor does it count towards a wait for what has no bound; a log behind the wait is too late.
+fn waits() -> History {
+    let within_three = || small_roastery_table("Fulfilling 3 eventually log");
+    history(
+        "Fulfilling 3 beside a rule that denies",
+        vec![
+            (New, Done),
+            (PutOn(0, within_three()), Done),
+            (PutOn(1, no_charge()), Done),
+            (Action(0), Denied(1)),
+            (Action(2), Permitted(0)),
+            (Action(0), Denied(1)),
+            (Action(1), Permitted(0)),
+            (Action(0), Denied(1)),
+            (Action(3), Permitted(0)), // the third that is permitted
+            (Action(1), Permitted(0)),
+            (TakeOff(0), Done),
+            (PutOn(0, within_three()), Done),
+            (Action(2), Permitted(0)),
+            (Action(1), Permitted(0)),
+            (Action(1), Permitted(0)),
+            (Action(3), Permitted(0)), // the fourth
+            (Action(1), Denied(0)),
+            (Action(3), Permitted(0)),
+            (Action(1), Denied(0)),
+            (TakeOff(0), Done),
+            (PutOn(0, small_roastery_table("Fulfilling 2 log")), Done),
+            (Action(2), Permitted(0)),
+            (Action(0), Denied(1)),
+            (Action(3), Permitted(0)), // a asks for it as the first
             (Action(1), Denied(0)),
         ],
     )

@@ -17,7 +17,7 @@ macro_rules! house {
     };
 }
 
-/// The eight of README.md.
+/// Eight of README.md: the seven that are joined there, and a report.
 pub const RULES: [House; 8] = [
     house!("no_charge_before_the_tray"),
     house!("drop_between_two_charges"),
@@ -28,6 +28,9 @@ pub const RULES: [House; 8] = [
     house!("log_before_the_next_charge"),
     house!("report_the_third_drop"),
 ];
+
+/// The ninth of README.md, a wait for something that has no bound.
+pub const WITHIN: House = house!("log_within_three_of_a_charge");
 
 /// The other two of examples/house: one that can be said, and one that cannot, as nothing that is denied makes a drop come.
 pub const REPORT: House = house!("report_the_drop");

@@ -34,6 +34,9 @@ const NO_CHARGE: &str = "enf|- 0 0 0";
 const DROP_FIRST: &str = "enf|- 1 - -|1 1 1 1";
 const TRAY_FIRST: &str = "enf|- 0 1 0|1 1 1 1";
 const DROP_BETWEEN: &str = "enf|1 0 0 0|- 0 1 1";
+/// Fulfilling 1 log and Fulfilling 2 log.
+const WAIT_OF_1: &str = "enf|1 1 1 2|1 - 1 1|2 2 2 2";
+const WAIT_OF_2: &str = "enf|1 1 1 2|3 3 3 3|2 2 2 2|3 - 3 3";
 const WATCHED: &str = "mon|0 - 0 0";
 /// Two rows alike.
 const ALIKE: &str = "enf|1 1 1 1|0 0 0 0";
@@ -63,6 +66,8 @@ fn tables() -> Vec<JoinCase> {
             &[DROP_FIRST, TRAY_FIRST],
             Table("enf|- 1 - -|- 1 2 1|2 2 2 2"),
         ),
+        of("a wait of 2, no charge", &[WAIT_OF_2, NO_CHARGE], Table("enf|- 1 1 2|- 3 3 3|- 2 2 2|- - 3 3")),
+        of("waits of 2 and of 1: the shorter decides", &[WAIT_OF_2, WAIT_OF_1], Table(WAIT_OF_1)),
         of("no p0, no p1", &["enf|- 0", "enf|0 -"], Table("enf|- -")),
         of("one action, 3 and 2 of it", &["enf|1|2|-", "enf|1|-"], Table("enf|1|-")),
         of("one action, nothing denied", &["enf|0", "enf|0"], Table("enf|0")),
@@ -93,7 +98,8 @@ fn itself() -> Vec<JoinCase> {
         times("tray first twice", TRAY_FIRST, 2),
         times("drop first, seven times", DROP_FIRST, 7),
         times("drop between, eight times", DROP_BETWEEN, 8),
-        times("Fulfilling 1 log, three times", "enf|1 1 1 2|1 - 1 1|2 2 2 2", 3),
+        times("Fulfilling 1 log, three times", WAIT_OF_1, 3),
+        times("Fulfilling 2 log, five times", WAIT_OF_2, 5),
         longest("64 rows, one action, twice", 1, 2),
         longest("64 rows, 16 actions, twice", 16, 2),
         longest("64 rows, 16 actions, eight times", 16, 8),

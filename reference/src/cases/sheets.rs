@@ -85,7 +85,31 @@ fn bounds() -> Vec<Case> {
         all.push(node(20, 0, [12, 13, 0])); // 65,520 and this
         nodes(&all)
     };
-    vec![case("bound 65,534", with(14), Refused(9, 1)), case("bound 65,535", with(15), Refused(7, 14))]
+    // Nodes 0 to 12 as above; Not 12 has 65,520 as well, Holds true 1; Eventually of node 0 and Always of 13 have none.
+    let fulfilling = |name: &str, k, parts, stated| {
+        let mut all = Sheet::read(&with(1)).expect("a sheet").nodes;
+        all.truncate(13);
+        all.extend([node(13, 0, [12, 0, 0]), node(1, 0, [0; 3]), node(11, 0, [14, 0, 0])]);
+        all.extend([node(16, 0, [0; 3]), node(17, 0, [13, 0, 0]), node(22, k, parts)]);
+        case(name, nodes(&all), stated)
+    };
+    let (large, a_large, small, a_small, unbounded, always) = (13, 12, 15, 0, 16, 17);
+    vec![
+        case("bound 65,534", with(14), Refused(9, 1)),
+        case("bound 65,535", with(15), Refused(7, 14)),
+        // k and the larger of b and c; what a has is neither added nor compared.
+        fulfilling("bound 65,534 by b, a unbounded", 14, [unbounded, large, small], Refused(9, 1)),
+        fulfilling("bound 65,535 by b, a unbounded", 15, [unbounded, large, small], Refused(7, 18)),
+        fulfilling("bound 65,534 by c, a unbounded", 14, [unbounded, small, large], Refused(9, 1)),
+        fulfilling("bound 65,535 by c, a unbounded", 15, [unbounded, small, large], Refused(7, 18)),
+        fulfilling("bound 65,534, a of 60", 14, [a_small, large, large], Refused(9, 1)),
+        fulfilling("bound 65,535, a of 60", 15, [a_small, large, large], Refused(7, 18)),
+        fulfilling("bound 65,534, a of 65,520", 14, [a_large, large, small], Refused(9, 1)),
+        fulfilling("bound 65,580, a of 65,520", 60, [a_large, large, small], Refused(7, 18)),
+        fulfilling("bound 61, a of 65,520", 60, [a_large, small, small], Refused(9, 1)),
+        fulfilling("no bound by b, c of 65,520", 60, [a_small, always, large], Refused(9, 1)),
+        fulfilling("no bound by c, b of 65,520", 60, [unbounded, large, always], Refused(9, 1)),
+    ]
 }
 
 /// Check 1.
@@ -293,8 +317,12 @@ fn types() -> Vec<Case> {
             all.extend([of(kind, 0, [WATCHED, wrong, 0]), of(kind, 0, [WATCHED, FORMULA, 0])]);
         }
     }
-    all.extend([of(22, 1, [ENFORCED, ENFORCED, ENFORCED]), of(22, 1, [WATCHED, WATCHED, ENFORCED])]);
-    all.extend([of(22, 1, [WATCHED, ENFORCED, WATCHED]), of(22, 2, [WATCHED, ENFORCED, ENFORCED])]);
+    // Whether k is the bound of a, which is 1, or not.
+    for k in [1, 2, 60] {
+        all.extend([of(22, k, [ENFORCED, ENFORCED, ENFORCED]), of(22, k, [FORMULA, ENFORCED, ENFORCED])]);
+        all.extend([of(22, k, [WATCHED, WATCHED, ENFORCED]), of(22, k, [WATCHED, FORMULA, ENFORCED])]);
+        all.extend([of(22, k, [WATCHED, ENFORCED, WATCHED]), of(22, k, [WATCHED, ENFORCED, FORMULA])]);
+    }
     all.extend([of(23, 0, [WATCHED, WATCHED, 0]), of(23, 0, [FORMULA, FORMULA, 0])]);
     all
 }
@@ -317,7 +345,32 @@ fn order() -> Vec<Case> {
         nodes(&all)
     };
     let formula = node(3, 0, [0; 3]);
+    // Node 3 is Fulfilling 2 (Now p0), which nothing is wrong with; some nodes, the last an enforced one; And of both.
+    let behind = |name: &str, actions: &[u16], more: &[Node], stated| {
+        let first = [formula, node(10, 0, [0; 3]), node(11, 0, [0; 3]), node(22, 2, [1, 2, 2])];
+        let last = node(14, 0, [3, 3 + more.len() as u8, 0]);
+        let nodes = [&first[..], more, &[last]].concat();
+        case(name, Sheet { actions: actions.to_vec(), nodes }.bytes(), stated)
+    };
+    let mut doubled = vec![node(12, 60, [0; 3])];
+    doubled.extend((4..15).map(|n| node(20, 0, [n, n, 0])));
+    doubled.push(node(13, 0, [15, 0, 0]));
+    let sixty_five = [node(12, 60, [0; 3]), node(12, 5, [0; 3]), node(20, 0, [4, 5, 0]), node(13, 0, [6, 0, 0])];
+    let ill_typed = [node(17, 0, [1, 0, 0])];
+    let many = [
+        node(12, 33, [0; 3]),
+        node(23, 0, [0, 4, 0]),
+        node(3, 1, [0; 3]),
+        node(12, 32, [0; 3]),
+        node(23, 0, [6, 7, 0]),
+        node(15, 0, [5, 8, 0]),
+        node(13, 0, [9, 0, 0]),
+    ];
     vec![
+        behind("6 behind a shorter wait", &ROASTERY, &ill_typed, Refused(6, 4)),
+        behind("7 behind a shorter wait", &ROASTERY, &doubled, Refused(7, 15)),
+        behind("8 behind a shorter wait", &TWO, &many, Refused(8, 9)),
+        behind("9 behind a shorter wait", &ROASTERY, &sixty_five, Refused(9, 6)),
         case("4 before 7 of an earlier node", tower(12, node(99, 0, [0; 3])), Refused(4, 12)),
         case("5 before 7 of an earlier node", tower(12, node(13, 0, [12, 0, 0])), Refused(5, 12)),
         case("7 before 6 of the next node", tower(12, node(17, 0, [11, 0, 0])), Refused(7, 11)),

@@ -105,7 +105,10 @@ fn types() -> Vec<Case> {
         behind("unused not of a policy, and Holds of that", &[count(2), but(0), holds(1)], NO_CHARGE),
         between("unused Eventually of Holds", &[eventually(2)], NO_CHARGE),
         between("unused And of a formula and a policy", &[and(1, 2)], NO_CHARGE),
-        between("unused Fulfilling 2 of Count 3", &[count(3), [22, 2, 3, 2, 2]], NO_CHARGE),
+        between("unused Fulfilling 2 of Count 3, well typed", &[count(3), [22, 2, 3, 2, 2]], NO_CHARGE),
+        between("unused Fulfilling 2 of Holds", &[[22, 2, 2, 2, 2]], NO_CHARGE),
+        between("unused Fulfilling 2 of a formula", &[[22, 2, 1, 2, 2]], NO_CHARGE),
+        between("unused Fulfilling 2, b watched, and Not of it", &[count(3), [22, 2, 3, 3, 2], not(4)], NO_CHARGE),
         between("unused Ignoring of a policy", &[[23, 0, 2, 2, 0], always(3), not(4)], NO_CHARGE),
         of("unused Not of a formula, 78 bytes and 5", &[&[CHARGE, not(0)], &whole[..]].concat(), WHENEVER),
     ]
@@ -235,9 +238,14 @@ fn used() -> Vec<Case> {
         with("65 rows, a of And", &[and(3, 3)], Refused(9, 2)),
         with("65 rows, b of And", &[not(0), and(4, 3)], Refused(9, 2)),
         with("65 rows, b of Ignoring", &[CHARGE, [23, 0, 4, 2, 0]], Refused(9, 2)),
+        with("65 rows, a of Fulfilling", &[fine, holds(4), fulfilling(2, 5, 5)], Refused(9, 2)),
         with("65 rows, b of Fulfilling", &[fine, holds(4), one, fulfilling(6, 3, 5)], Refused(9, 2)),
         with("65 rows, c of Fulfilling", &[fine, holds(4), one, fulfilling(6, 5, 3)], Refused(9, 2)),
         with("65 rows of no part", &[fine, holds(4), one, fulfilling(6, 5, 5)], Rows("enf", 1)),
+        of("an enforced a of Fulfilling", &[fine, holds(0), [22, 2, 1, 1, 1]], Refused(6, 2)),
+        of("Fulfilling 2 of Count 3", &[&no_charge(0)[..], &[count(3), [22, 2, 4, 3, 3]]].concat(), {
+            Table("enf|1 1 1 1|2 2 2 2|- 2 2 2")
+        }),
         of("an ill-typed formula, through Holds", &[one, but(0), but(1), holds(2)], Refused(6, 1)),
         of("an ill-typed formula, b of or", &[one, but(0), fine, [6, 0, 2, 1, 0], holds(3)], Refused(6, 1)),
         of("an ill-typed formula, a of Ignoring", &[one, but(0), [23, 0, 1, 0, 0]], Refused(6, 1)),

@@ -1,6 +1,6 @@
 //! Texts with the reader's answer stated beside each.
 
-use super::{house, small_roastery, Stated};
+use super::{house, stated_of, Stated};
 use crate::trees::{ROASTERY, TWO};
 
 /// A text, what is lent beside it, and what is stated of it.
@@ -50,17 +50,18 @@ fn refused(text: &str, spot: u16) -> TextCase {
 
 /// All of them.
 pub fn all() -> Vec<TextCase> {
-    let lists = [roastery(), house_rules(), kinds(), sides(), blanks(), other_bytes(), numbers(), wrong_words()];
+    let lists =
+        [roastery(), waits(), house_rules(), kinds(), sides(), blanks(), other_bytes(), numbers(), wrong_words()];
     lists.into_iter().chain([ends(), lengths(), depths(), node_counts(), lent(), order()]).flatten().collect()
+}
+
+/// A text whose sheet compiles as it is stated for a case over the roastery's actions.
+fn like(name: &str, text: &str) -> TextCase {
+    case(name, text, Compiles(stated_of(name).expect("a case of the small roastery")))
 }
 
 /// Those of "A small roastery" that are texts, or nearly.
 pub fn roastery() -> Vec<TextCase> {
-    let cases = small_roastery();
-    let like = |name: &str, text: &str| {
-        let found = cases.iter().find(|case| case.name == name).expect("a case of the small roastery");
-        case(name, text, Compiles(found.stated))
-    };
     let over = |case: TextCase, actions: &[u16]| TextCase { actions: actions.to_vec(), ..case };
     let counts = |one, two| format!("watch or ignoring p0 count {one} ignoring p1 count {two}");
     let two_counts = |one, two, number| {
@@ -97,13 +98,61 @@ pub fn roastery() -> Vec<TextCase> {
     ]
 }
 
+/// Fulfilling whose number is not the bound of its W.
+fn waits() -> Vec<TextCase> {
+    use Stated::{Rows, Table};
+    let compiles = |name: &str, text: &str, stated| case(name, &format!("enforce {text}"), Compiles(stated));
+    vec![
+        like("Fulfilling 3 eventually log", "enforce fulfilling 3 eventually now p3 holds true always holds not p1"),
+        like("Fulfilling 1 eventually log", "enforce fulfilling 1 eventually now p3 holds true always holds not p1"),
+        like("Fulfilling 60 eventually log", "enforce fulfilling 60 eventually now p3 holds true always holds not p1"),
+        like("Fulfilling 60 of nothing", "enforce fulfilling 60 now false holds true always holds not p1"),
+        like("Fulfilling 3 log", "enforce fulfilling 3 now p3 holds true always holds not p1"),
+        like("Fulfilling 2 Count 3", "enforce fulfilling 2 count 3 always holds not p0 always holds not p1"),
+        like(
+            "Fulfilling 2 log behind a tray",
+            "enforce fulfilling 2 after eventually now p2 eventually now p3 always holds not p0 always holds not p1",
+        ),
+        like(
+            "Fulfilling 2 Ignoring tray log",
+            "enforce fulfilling 2 ignoring p2 now p3 holds true always holds not p1",
+        ),
+        like(
+            "Fulfilling 2 log, else Fulfilling 1 tray",
+            "enforce fulfilling 2 eventually now p3 holds true \
+             fulfilling 1 eventually now p2 holds true always holds not p1",
+        ),
+        like(
+            "Whenever charge: Fulfilling 2 log",
+            "enforce always after now p0 fulfilling 2 eventually now p3 holds true always holds not p1",
+        ),
+        like("Not Fulfilling 2 log", "watch not fulfilling 2 eventually now p3 holds true always holds not p1"),
+        // Whether a is fulfilled or not, everything is permitted.
+        compiles("fulfilling 2 now, nothing denied", "fulfilling 2 now p3 holds true holds true", Table("enf|0 0 0 0")),
+        compiles("fulfilling 1 count 60", "fulfilling 1 count 60 not count 1 holds true", Table("enf|0 0 0 0")),
+        // The first action fulfils a; the second is a charge.
+        compiles("fulfilling 60 count 1", "fulfilling 60 count 1 holds p0 not count 1", {
+            Table("enf|1 1 1 1|2 - - -|2 2 2 2")
+        }),
+        // 60 rows of waiting, and 4 or 5 behind them.
+        compiles("fulfilling 60, 64 rows", "fulfilling 60 now false not count 5 not count 4", Rows("enf", 64)),
+        compiles("fulfilling 60, 65 rows", "fulfilling 60 now false not count 4 not count 5", Stated::Refused(9, 6)),
+        // The inner one is violated by a ninth action: too late for a. The fifth is denied.
+        compiles(
+            "fulfilling 5 in fulfilling 2",
+            "fulfilling 2 not fulfilling 5 now p3 holds true not count 4 holds true not count 3",
+            Rows("enf", 5),
+        ),
+    ]
+}
+
 /// The house rules of README.md.
 pub fn house_rules() -> Vec<TextCase> {
     let rule = |house: &house::House| {
         let name = format!("house: {}", house.name);
         TextCase { actions: house.actions(), ..case(&name, house.text(), As(house.sheet)) }
     };
-    house::RULES.iter().map(rule).collect()
+    house::RULES.iter().chain([&house::WITHIN]).map(rule).collect()
 }
 
 /// Each word of the language, in each mode that has it.

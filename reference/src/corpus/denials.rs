@@ -33,7 +33,7 @@ fn record(name: String, lent: Lent, sheet: Vec<u8>, before: usize, rest: Vec<u8>
 }
 
 /// All lists, and the longest drawn sheet that is kept.
-const LISTS: usize = 300;
+const LISTS: usize = 325;
 const LONGEST: usize = 250;
 
 pub fn all() -> Vec<Record> {

@@ -30,7 +30,7 @@ fn record(name: String, lent: Lent, count: usize, tables: Vec<u8>) -> Record {
 }
 
 /// All joins; the longest drawn tables that are kept, and the rows of a joined one: one row says little.
-const JOINS: usize = 250;
+const JOINS: usize = 260;
 const LONGEST: usize = 700;
 const JOINED_ROWS: std::ops::RangeInclusive<u8> = 2..=50;
 
@@ -38,7 +38,7 @@ pub fn all(pool: &Pool) -> Vec<Record> {
     let stated = joins::all().into_iter();
     let mut all: Vec<Record> =
         stated.map(|JoinCase { name, lent, count, tables, .. }| record(name, lent, count, tables)).collect();
-    let mut random = Random(10);
+    let mut random = Random(11);
     while all.len() < JOINS {
         let join = any_join(&mut random, pool);
         if join.tables.len() <= LONGEST && join.count < 65_536 {

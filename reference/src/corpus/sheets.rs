@@ -1,14 +1,15 @@
 //! The corpus of sheets: those of "A small roastery" first, then those with a stated answer, then drawn ones, at the end
-//! pairs of a sheet with spare nodes and the same without.
+//! pairs: a sheet with spare nodes and the same without, and a Fulfilling and the same written otherwise.
 
 use super::{tally, write, Corpus};
 use crate::calls::{self, VALUES, WORK};
-use crate::cases::{counted, sheets, small_roastery, spare, Case, Lent};
+use crate::cases::{counted, sheets, small_roastery, spare, waits, Case, Lent};
 use crate::compile;
 use crate::generate::{lay_out, sheet, Random, Style};
 use crate::inputs::sheets::SORTS;
 use crate::inputs::spare::{any_spared, Spared};
 use crate::inputs::tables::Pool;
+use crate::inputs::waits::{any_rewritten, Rewritten, Way};
 use crate::sheet::Sheet;
 use crate::table::LARGEST;
 
@@ -41,9 +42,17 @@ const ROUNDS: usize = 4;
 const PAIRS: usize = 20;
 pub const WITH_SPARE_NODES: &str = "spare nodes between";
 pub const WITHOUT_SPARE_NODES: &str = "the same, spare nodes taken out";
+/// Pairs for each way to write a Fulfilling, and their names.
+const WAITS: usize = 4;
+pub const WAIT: &str = "a wait";
+pub const OTHERWISE: [(Way, &str); 3] = [
+    (Way::Cut, "the same, a cut off behind k actions"),
+    (Way::Late, "the same, a fulfilled by k + 1 actions"),
+    (Way::Split, "the same in two parts"),
+];
 
 pub fn all() -> Vec<Record> {
-    let stated = small_roastery().into_iter().chain(sheets::all()).chain(spare::all()).chain(counted::all());
+    let stated = [small_roastery(), waits(), sheets::all(), spare::all(), counted::all()].into_iter().flatten();
     let mut all: Vec<Record> = stated.map(|Case { name, lent, sheet, .. }| record(name, lent, sheet)).collect();
     let mut random = Random(1);
     let mut draw = |name: String, draw: &dyn Fn(&mut Random) -> Vec<u8>| {
@@ -62,6 +71,14 @@ pub fn all() -> Vec<Record> {
         let pair = drawn.find(|drawn| refused(drawn) == (pair % 4 == 3)).expect("a pair");
         all.push(record(WITH_SPARE_NODES.into(), Lent::Whole, pair.spared.bytes()));
         all.push(record(WITHOUT_SPARE_NODES.into(), Lent::Whole, pair.plain.bytes()));
+    }
+    for (way, name) in OTHERWISE.into_iter().flat_map(|way| [way; WAITS]) {
+        let short = |pair: &Rewritten| pair.other.nodes.len() <= 30;
+        let several = |pair: &Rewritten| compile(&pair.other.bytes()).is_ok_and(|table| table[4] > 2);
+        let mut drawn = std::iter::repeat_with(|| any_rewritten(&mut random));
+        let pair = drawn.find(|drawn| drawn.way == way && short(drawn) && several(drawn)).expect("a pair");
+        all.push(record(WAIT.into(), Lent::Whole, pair.plain.bytes()));
+        all.push(record(name.into(), Lent::Whole, pair.other.bytes()));
     }
     all
 }

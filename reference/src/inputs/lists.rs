@@ -3,6 +3,7 @@
 use super::sheets::any_sheet;
 use super::spare::{put_between, taken_out, Spared};
 use super::texts;
+use super::waits::with_waits;
 use crate::compile;
 use crate::generate::{all_types, lay_out, sheet, Random, Style};
 use crate::machine::Rows;
@@ -20,7 +21,8 @@ pub struct List {
 /// A list of any sort.
 pub fn any_list(random: &mut Random) -> List {
     let (sort, sheet) = match random.below(100) {
-        0..=34 => ("list, Ands over drawn nodes", ands(random)),
+        0..=24 => ("list, Ands over drawn nodes", ands(random)),
+        25..=34 => ("list, Ands over Fulfilling", ands_of_waits(random)),
         35..=59 => ("list, Ands as of a text", ands_of_a_text(random)),
         60..=69 => ("list, a policy as of a text", policy_of_a_text(random)),
         70..=79 => ("list, Ands with spare nodes", spare_ands(random)),
@@ -37,6 +39,19 @@ fn ands(random: &mut Random) -> Vec<u8> {
     let drawn = sheet(random, Style { actions, nodes, inside_limits: true, slips: 0 });
     let whole = conjunction(random, drawn);
     lay_out(random, &whole)
+}
+
+/// Ands over waits.
+fn ands_of_waits(random: &mut Random) -> Vec<u8> {
+    let whole = waits_under_and(random);
+    lay_out(random, &whole)
+}
+
+pub fn waits_under_and(random: &mut Random) -> Sheet {
+    let (actions, nodes) = (1 + random.below(4), 3 + random.below(14));
+    let drawn = sheet(random, Style { actions, nodes, inside_limits: true, slips: 0 });
+    let waits = with_waits(random, drawn);
+    conjunction(random, waits)
 }
 
 /// The sheet with some Ands behind its nodes, the last one the policy. A sheet that has no enforced node gets one.

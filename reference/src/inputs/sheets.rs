@@ -1,20 +1,24 @@
 //! Sheets of every sort.
 
 use super::spare::{faulty_bytes, spare_nodes};
+use super::waits::{fulfilling_in_fulfilling, small_fulfilling, waits_near_the_limits, waits_over_drawn_nodes};
 use super::{any_of, cut_or_grow, damage, sort, Sort};
 use crate::generate::{lay_out, sheet, Random, Style};
 use crate::sheet::{Node, Sheet, HEADER};
 use crate::trees::*;
 
 /// All sorts.
-pub const SORTS: [Sort; 13] = [
+pub const SORTS: [Sort; 16] = [
     sort("sheet, well typed", 20, |random| drawn(random, false, 0)),
     sort("sheet, inside the limits", 25, |random| drawn(random, true, 0)),
     sort("sheet, with slips", 10, |random| drawn(random, false, 10)),
     sort("sheet, any nodes", 5, |random| drawn(random, false, 100)),
     sort("sheet, near the limits", 4, near_the_limits),
     sort("sheet, bounds near 65,534", 2, near_the_largest_bound),
-    sort("sheet, Fulfilling", 1, small_fulfilling),
+    sort("sheet, Fulfilling", 6, small_fulfilling),
+    sort("sheet, Fulfilling over drawn nodes", 6, waits_over_drawn_nodes),
+    sort("sheet, Fulfilling in Fulfilling", 3, fulfilling_in_fulfilling),
+    sort("sheet, Fulfilling near the limits", 3, waits_near_the_limits),
     sort("sheet, damaged", 23, damaged),
     sort("sheet, cut or grown", 4, cut_or_grown),
     sort("sheet, long", 3, long_sheet),
@@ -119,27 +123,6 @@ pub fn near_the_limits(random: &mut Random) -> Vec<u8> {
     lay_out(random, &sheet)
 }
 
-/// Fulfilling of a small a, whose bound is k, is near it, or is none.
-pub fn small_fulfilling(random: &mut Random) -> Vec<u8> {
-    let k = 1 + random.below(5) as u8;
-    let other = count(1 + random.below(5) as u8);
-    let a = match random.below(9) {
-        0 => count(k),
-        1 => now(prop(0)),
-        2 => ignoring(prop(0), count(k)),
-        3 => eventually(count(k)),
-        4 => not(not(count(k))),
-        5 => tree(random.pick(&[14, 15]), 0, [count(k), other]),
-        6 => tree(18, 0, [other, count(k)]),
-        7 => tree(18, 0, [eventually(now(prop(1))), count(k)]),
-        _ => after_watched(other, ignoring(no(), count(k))),
-    };
-    let wait = if random.chance(60) { k } else { 1 + random.below(8) as u8 };
-    let (b, c) = (holds(prop(1)), always(holds(but(prop(0)))));
-    let sheet = fulfilling(wait, a, b, c).sheet(&[1, 2, 0]);
-    lay_out(random, &sheet)
-}
-
 /// A policy whose bound is about 65,534: nodes 0 to 15 have the powers of two, the next ones add up
 /// to the bound less one, the last adds one. They are all too large to build (9 at node 7).
 pub fn near_the_largest_bound(random: &mut Random) -> Vec<u8> {
@@ -160,12 +143,15 @@ pub fn near_the_largest_bound(random: &mut Random) -> Vec<u8> {
     let (sum, large, small) = (sum.unwrap_or(0), nodes.len() as u8, nodes.len() as u8 + 1);
     nodes.extend([node(13, 0, [sum, 0, 0]), node(13, 0, [0; 3])]);
     nodes.extend([node(1, 0, [0; 3]), node(23, 0, [small + 1, sum, 0])]);
-    nodes.push(match random.below(5) {
+    // What a has, 1, 8 or none, is no part of the bound of Fulfilling.
+    let (a, k) = (random.pick(&[0, 3, small + 2]), 1 + random.below(3) as u8);
+    nodes.push(match random.below(6) {
         4 => node(20, 0, [small + 2, sum, 0]), // no bound at all
+        5 => node(22, 60, [a, small, small]),
         0 => node(20, 0, [sum, 0, 0]),
         1 => node(21, 0, [0, large, 0]),
-        2 => node(22, 1, [0, large, small]),
-        _ => node(22, 1, [0, small, large]),
+        2 => node(22, k, [a, large, small]),
+        _ => node(22, k, [a, small, large]),
     });
     let sheet = Sheet { actions: vec![random.draw() as u16], nodes };
     lay_out(random, &sheet)

@@ -1,6 +1,7 @@
 //! Spare nodes: nodes that the policy does not use, put between those of a sheet, and taken out again.
 
-use super::sheets::{near_the_largest_bound, near_the_limits, small_fulfilling};
+use super::sheets::{near_the_largest_bound, near_the_limits};
+use super::waits::small_fulfilling;
 use crate::generate::{lay_out, sheet, Random, Style};
 use crate::sheet::{check_fields, Node, Sheet};
 use crate::trees::*;

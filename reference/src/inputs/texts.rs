@@ -1,7 +1,7 @@
 //! Texts of every sort: rules drawn from the grammar, with their words or bytes damaged.
 
 use super::{any_of, sort, Sort};
-use crate::generate::Random;
+use crate::generate::{wait, Random};
 use crate::sheet::Type;
 use crate::text::Wanted::{self, *};
 use crate::text::LONGEST;
@@ -118,19 +118,17 @@ fn argument(random: &mut Random, kind: u8, parts: &[Tree]) -> u8 {
     match kind {
         3 if random.chance(80) => random.below(4) as u8,
         3 => random.below(16) as u8,
-        22 if random.chance(75) => bound(&parts[0]).unwrap_or(1),
-        12 | 22 if random.chance(80) => 1 + random.below(4) as u8,
-        12 | 22 => 1 + random.below(60) as u8,
+        12 if random.chance(80) => 1 + random.below(4) as u8,
+        12 => 1 + random.below(60) as u8,
+        22 => wait(random, type_of(&parts[0])),
         _ => 0,
     }
 }
 
-/// The bound of a policy, where Fulfilling may have it.
-fn bound(policy: &Tree) -> Option<u8> {
-    match policy.unshared_sheet(&[0]).types().ok()?.last()? {
-        Type::Watched(Some(bound @ 1..=60)) => Some(*bound as u8),
-        _ => None,
-    }
+/// The type of a policy, which a text never has wrong.
+fn type_of(policy: &Tree) -> Type {
+    let types = policy.unshared_sheet(&[0]).types().expect("well typed");
+    types[types.len() - 1]
 }
 
 /// A rule of so many nodes, two or more: its first word, and its policy.
@@ -318,6 +316,7 @@ fn deep(random: &mut Random) -> Vec<u8> {
         ("watch", "after count 1", "now p1"),
         ("enforce", "before count 2", "holds p1"),
         ("enforce", "fulfilling 1 count 1 holds true", "holds p1"),
+        ("enforce", "fulfilling 3 eventually now p0 holds true", "holds p1"),
         ("watch", "ignoring p0", "count 3"),
     ]);
     let most = (LONGEST - first.len() - end.len() - 1) / (again.len() + 1);

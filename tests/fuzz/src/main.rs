@@ -7,6 +7,7 @@ mod boards;
 mod lent;
 mod library;
 mod spare;
+mod waits;
 
 use beside::{Beside, Call, Outcome};
 use boards::{about, any_board, number};
@@ -14,11 +15,12 @@ use reference::board::{AREA, PLACES, RECORD};
 use reference::calls::{fields, DENIED, VALUES, WORK};
 use reference::generate::{lay_out, Random};
 use reference::inputs::joins::any_join;
-use reference::inputs::lists::{any_list, list_for, long_list, spared_ands};
+use reference::inputs::lists::{any_list, list_for, long_list, spared_ands, waits_under_and};
 use reference::inputs::sheets::any_sheet;
 use reference::inputs::spare::{any_spared, Spared};
 use reference::inputs::tables::Pool;
 use reference::inputs::texts::{any_actions, any_text};
+use reference::inputs::waits::{any_rewritten, any_way};
 use reference::table::LARGEST;
 use reference::text::OUTPUT;
 use spare::{Desk, Pair};
@@ -44,6 +46,9 @@ struct Fuzz {
     places: BTreeSet<u64>,
     /// Pairs of a sheet with spare nodes and the same without, by call and number of the answer.
     pairs: BTreeMap<(&'static str, u16), usize>,
+    /// Pairs of a Fulfilling and the same written otherwise, likewise; and those of which 8 or 9 refuses one alone.
+    waits: BTreeMap<(&'static str, u16), usize>,
+    one_over: usize,
     calls: usize,
     disagreements: usize,
 }
@@ -54,10 +59,7 @@ impl Fuzz {
         *self.sorts.entry(sort).or_default() += 1;
         match outcome {
             Ok(answer) => *self.answers.entry((call, answer as u16)).or_default() += 1,
-            Err(text) => {
-                self.disagreements += 1;
-                println!("disagreement {}, call {}, {sort}, {text}", self.disagreements, self.calls);
-            }
+            Err(text) => self.disagree(sort, &text),
         }
     }
 
@@ -96,10 +98,45 @@ impl Fuzz {
     fn pair(&mut self, call: &'static str, outcome: Result<u16, String>) {
         match outcome {
             Ok(number) => *self.pairs.entry((call, number)).or_default() += 1,
-            Err(text) => {
-                self.disagreements += 1;
-                println!("disagreement {}, call {}, spare nodes, {text}", self.disagreements, self.calls);
-            }
+            Err(text) => self.disagree("spare nodes", &text),
+        }
+    }
+
+    fn disagree(&mut self, sort: &str, text: &str) {
+        self.disagreements += 1;
+        println!("disagreement {}, call {}, {sort}, {text}", self.disagreements, self.calls);
+    }
+
+    /// A sheet with a Fulfilling and the same written otherwise: each beside the reference, and both beside each other.
+    fn waits(&mut self) {
+        let ands = self.random.chance(30);
+        let drawn = if ands {
+            let plain = waits_under_and(&mut self.random);
+            any_way(&mut self.random, &plain)
+        } else {
+            Some(any_rewritten(&mut self.random))
+        };
+        let Some(drawn) = drawn else { return };
+        let (plain, other) = (lay_out(&mut self.random, &drawn.plain), lay_out(&mut self.random, &drawn.other));
+        let pair = waits::Pair { drawn: &drawn, plain: &plain, other: &other };
+        if ands {
+            let list = list_for(&mut self.random, &plain);
+            self.explain("list, of a pair with Fulfilling", &plain, &list);
+            self.explain("list, of a pair, Fulfilling written otherwise", &other, &list);
+            let outcome = pair.explained(&mut self.desk, &list);
+            self.wait("explain", outcome);
+        }
+        self.compile("sheet, of a pair with Fulfilling", &plain);
+        self.compile("sheet, of a pair, Fulfilling written otherwise", &other);
+        let outcome = pair.compiled(&mut self.desk);
+        self.wait("compile", outcome);
+    }
+
+    fn wait(&mut self, call: &'static str, outcome: Result<Option<u16>, String>) {
+        match outcome {
+            Ok(Some(number)) => *self.waits.entry((call, number)).or_default() += 1,
+            Ok(None) => self.one_over += 1,
+            Err(text) => self.disagree("Fulfilling", &text),
         }
     }
 
@@ -241,11 +278,13 @@ fn main() {
         named: BTreeSet::new(),
         places: BTreeSet::new(),
         pairs: BTreeMap::new(),
+        waits: BTreeMap::new(),
+        one_over: 0,
         calls: 0,
         disagreements: 0,
     };
     while fuzz.calls < calls && fuzz.disagreements < ENOUGH {
-        match fuzz.random.below(195) {
+        match fuzz.random.below(203) {
             0..=39 => fuzz.sheet(),
             40..=69 => fuzz.table(),
             70..=98 => fuzz.board(),
@@ -253,6 +292,7 @@ fn main() {
             139..=158 => fuzz.join(),
             159..=183 => fuzz.list(),
             184..=193 => fuzz.spare_nodes(),
+            194..=201 => fuzz.waits(),
             _ => fuzz.history(),
         }
     }
@@ -266,6 +306,15 @@ fn main() {
     println!("{pairs} pairs of a sheet with spare nodes and the same without that answer alike, by call and number");
     for name in ["compile", "explain"] {
         println!("{name:>9}  {}", by_number(&fuzz.pairs, name));
+    }
+    let waits: usize = fuzz.waits.values().sum();
+    println!(
+        "{waits} pairs of a Fulfilling and the same written otherwise that answer alike, by call and number ({} more, \
+         of which 8 or 9 refuses one alone)",
+        fuzz.one_over
+    );
+    for name in ["compile", "explain"] {
+        println!("{name:>9}  {}", by_number(&fuzz.waits, name));
     }
     let farthest = fuzz.places.last().copied().unwrap_or(0);
     println!("{} nodes named, {} places up to {farthest}", fuzz.named.len(), fuzz.places.len());
