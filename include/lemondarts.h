@@ -35,8 +35,8 @@
  */
 #define LEMONDARTS_VERSION_MAJOR 4
 #define LEMONDARTS_VERSION_MINOR 6
-#define LEMONDARTS_VERSION_PATCH 0
-#define LEMONDARTS_VERSION "4.6.0"
+#define LEMONDARTS_VERSION_PATCH 1
+#define LEMONDARTS_VERSION "4.6.1"
 
 /* Lengths. An area may be longer; what stands behind these lengths is not touched. */
 #define LEMONDARTS_RECORD 16     /* a board's record, in bytes */

@@ -1,11 +1,13 @@
 //! Times of the library's calls, as ratios to the reference in the same run; of actions also to a
 //! plain scan of the bytes that the check of the board has to read, and to the same call written by
 //! hand in C, plain and with SSE2; of reading a text also to compiling its sheet; of minimisation and of
-//! joining to OpenFst; of explaining to compiling the sheet; of a sheet with spare nodes to the same without.
+//! joining to OpenFst; of explaining to compiling the sheet; of a sheet with spare nodes to the same without; of sheets
+//! of many formulas to one of a single formula.
 //! Arguments: the programs built from minimise.cc and intersect.cc, if there are any.
 
 mod by_hand;
 mod denials;
+mod formulas;
 mod joins;
 #[allow(dead_code)] // not every call is timed
 #[path = "../../tests/fuzz/src/library.rs"]
@@ -94,6 +96,26 @@ fn compile(on: &str, sheets: &[Vec<u8>]) {
     };
     let [library, reference, clearing] = medians([&mut compiler(sheets), &mut by_reference, &mut clearing]);
     line("compile", on, sheets.len(), library, &[reference, clearing]);
+}
+
+/// Prints times of compiling a sheet: the library's, then others with its ratio to them. The others are those of
+/// compiling a smaller sheet, of clearing the work areas, and of the reference.
+fn compile_beside(on: &str, sheet: &[u8], smaller: &[Vec<u8>]) {
+    let (mut work, mut values) = (vec![0u8; WORK], vec![0u64; VALUES]);
+    let mut clearing = || {
+        black_box(&mut work).fill(0);
+        black_box(&mut values).fill(0);
+    };
+    let mut by_reference = || {
+        let _ = black_box(reference::compile(black_box(sheet)));
+    };
+    let sheets = [sheet.to_vec()];
+    let functions: [&mut dyn FnMut(); 4] =
+        [&mut compiler(&sheets), &mut compiler(smaller), &mut clearing, &mut by_reference];
+    let [library, others @ ..] = medians(functions);
+    print!("{on:52} {library:10.3}");
+    others.iter().for_each(|&other| print!(" {other:10.3} {:7.2}", library / other));
+    println!();
 }
 
 fn load(on: &str, tables: &[Vec<u8>]) {
@@ -288,4 +310,5 @@ fn main() {
     joins::all(programs.next().as_deref());
     denials::all();
     spare::all();
+    formulas::all();
 }

@@ -1,11 +1,9 @@
 //! Compiling a sheet of 64 nodes of which the policy uses 12, beside the same 12 nodes alone.
 
-use crate::{compiler, medians};
-use reference::calls::{VALUES, WORK};
+use crate::compile_beside;
 use reference::cases::house::{House, RULES};
 use reference::inputs::spare::renumbered;
 use reference::sheet::{Node, Sheet};
-use std::hint::black_box;
 
 /// Nodes of a sheet, and those that its policy uses.
 const NODES: usize = 64;
@@ -50,21 +48,7 @@ fn behind(texts: &[&str], rule: &House) -> Vec<u8> {
 
 fn line(on: &str, sheet: Vec<u8>, alone: &[Vec<u8>]) {
     assert_eq!(reference::compile(&sheet), reference::compile(&alone[0]));
-    let (mut work, mut values) = (vec![0u8; WORK], vec![0u64; VALUES]);
-    let mut clearing = || {
-        black_box(&mut work).fill(0);
-        black_box(&mut values).fill(0);
-    };
-    let mut by_reference = || {
-        let _ = black_box(reference::compile(black_box(&sheet)));
-    };
-    let sheets = [sheet.clone()];
-    let functions: [&mut dyn FnMut(); 4] =
-        [&mut compiler(&sheets), &mut compiler(alone), &mut clearing, &mut by_reference];
-    let [library, others @ ..] = medians(functions);
-    print!("{on:52} {library:10.3}");
-    others.iter().for_each(|&other| print!(" {other:10.3} {:7.2}", library / other));
-    println!();
+    compile_beside(on, &sheet, alone);
 }
 
 pub fn all() {

@@ -3,6 +3,7 @@
 
 pub mod counted;
 pub mod denials;
+pub mod formulas;
 pub mod histories;
 pub mod house;
 pub mod joins;

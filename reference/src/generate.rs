@@ -34,6 +34,10 @@ impl Random {
         from[self.below(from.len())]
     }
 
+    pub fn shuffle<T>(&mut self, list: &mut [T]) {
+        (1..list.len()).rev().for_each(|last| list.swap(last, self.below(last + 1)));
+    }
+
     pub fn fill(&mut self, bytes: &mut [u8]) {
         for chunk in bytes.chunks_mut(8) {
             let junk = self.draw().to_le_bytes();

@@ -1,5 +1,6 @@
 //! Inputs of every sort, drawn: sheets, tables, joins, texts and lists of actions, and ways to damage bytes.
 
+pub mod formulas;
 pub mod joins;
 pub mod lists;
 pub mod sheets;

@@ -2,8 +2,8 @@
 
 use reference::cases::histories;
 use reference::cases::{
-    counted, sheets, small_roastery, small_roastery_table, spare, table_bytes, tables, type_byte, waits, Case, Lent,
-    Stated,
+    counted, formulas, sheets, small_roastery, small_roastery_table, spare, table_bytes, tables, type_byte, waits,
+    Case, Lent, Stated,
 };
 use reference::corpus::calls::Desk;
 use reference::trees::*;
@@ -65,6 +65,11 @@ fn stated_sheets() {
 #[test]
 fn sheets_with_spare_nodes() {
     spare::all().into_iter().for_each(check);
+}
+
+#[test]
+fn sheets_of_formulas() {
+    formulas::all().into_iter().for_each(check);
 }
 
 #[test]

@@ -59,6 +59,21 @@ fn waits_agree() {
     }
 }
 
+/// A sheet of many formulas and the same with other formulas have one answer and one table. Both sorts of answers are
+/// there.
+#[test]
+fn formulas_agree() {
+    let records = sheets::all();
+    let pairs: Vec<_> = records.windows(2).filter(|pair| pair[0].name == sheets::MANY_FORMULAS).collect();
+    for pair in &pairs {
+        assert_eq!(pair[1].name, sheets::OTHER_FORMULAS);
+        assert_eq!((pair[0].answer, &pair[0].table), (pair[1].answer, &pair[1].table));
+        assert_ne!(pair[0].sheet, pair[1].sheet);
+    }
+    let compiled = pairs.iter().filter(|pair| pair[0].answer[0] == 0 && pair[0].table[4] > 2).count();
+    assert!(compiled >= 8 && pairs.len() - compiled >= 2, "{compiled} of {}", pairs.len());
+}
+
 /// Every kind is in eight sheets of texts and more, the whole policy of one; every answer is there at least eight times.
 #[test]
 fn texts_cover_kinds_and_answers() {

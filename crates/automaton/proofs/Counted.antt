@@ -6,15 +6,9 @@ use Prim.Native.Nat.{ℕ, _≤_, _<_}
 use native.Mathlib.Decide.{ℕ-discrete, decLt}
 use native.Mathlib.Omega.{arith}
 use Rattle.automaton.specs.Partition.{classOf, firstOf, Partition, Over}
+use Rattle.automaton.specs.Refining.{Classified}
 use Rattle.automaton.proofs.Classes.{Equivalence, class-related, related-class}
 use Rattle.automaton.proofs.Splits.{update, update-same, update-other, over-extend, over-not-partition}
-
--- `count` classes, each of some state.
-pub record Classified (states count : ℕ) (classes : List ℕ) : Type 0 where
-  pub pick : ℕ → ℕ
-  pub below : (s : ℕ) → s < states → classOf classes s < count
-  pub inside : (c : ℕ) → c < count → pick c < states
-  pub own : (c : ℕ) → c < count → classOf classes (pick c) ≡ c
 
 -- every state in one class
 pub one-classified : (states : ℕ) (classes : List ℕ) → 0 < states → ((s : ℕ) → s < states → classOf classes s ≡ 0) → Classified states 1 classes

@@ -1,11 +1,14 @@
+pub mod Beginning
 pub mod Canonical
 pub mod Classes
 pub mod Compared
 pub mod Counted
 pub mod Entries
 pub mod Grown
+pub mod Measured
 pub mod MinimalRows
 pub mod Numbering
+pub mod Numbers
 pub mod QuotientNumbered
 pub mod QuotientReads
 pub mod Refining

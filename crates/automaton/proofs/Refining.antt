@@ -1,4 +1,4 @@
--- What holds between the passes of a refinement, and what each pass makes of it.
+-- What each pass of a refinement makes of its classes.
 -- Assumes nothing.
 use mathlib.Core.Path.{_≡_, subst}
 use mathlib.Core.List.{List}
@@ -6,21 +6,14 @@ use Prim.Native.Nat.{ℕ, _≤_, _<_}
 use native.Mathlib.Omega.{arith}
 use lib.ListN.{length, replicate, getD-replicate, length-replicate}
 use Rattle.automaton.specs.Machine.{Machine, AlikeStates}
-use Rattle.automaton.specs.Partition.{classOf, SameSignature, Partition, Over, SplitsTo, RestrictedGrowth}
+use Rattle.automaton.specs.Partition.{classOf, SameSignature, Partition, Over, SplitsTo}
 use Rattle.automaton.specs.declared.Refined.{Refined}
 use Rattle.automaton.specs.declared.Refined.the-variants.{Classes, TooMany}
 use Rattle.automaton.proofs.Compared.{signature-equivalence}
-use Rattle.automaton.proofs.Counted.{Classified, one-classified, partition-classified, no-fewer}
+use Rattle.automaton.specs.Refining.{Refining}
+use Rattle.automaton.proofs.Counted.{one-classified, partition-classified, no-fewer}
 use Rattle.automaton.proofs.Rising.{zeros-grow, partition-grows}
-use Rattle.automaton.proofs.Stable.{Sound, over-alike, pass-sound, stable-partition}
-
--- At most `limit` classes, each of some state, numbered by their first members, and coarser than alikeness, whatever the mark is.
-pub record Refining (states actions limit count : ℕ) (next classes : List ℕ) : Type 0 where
-  pub few : count ≤ limit
-  pub paired : length classes ≡ states
-  pub classified : Classified states count classes
-  pub growth : RestrictedGrowth classes
-  pub sound : (mark : ℕ) → Machine mark states actions next → Sound mark states actions next classes
+use Rattle.automaton.proofs.Stable.{over-alike, pass-sound, stable-partition}
 
 -- one class is coarser than everything
 pub one-refining : (states actions limit : ℕ) (next classes : List ℕ) → 0 < limit → 0 < states → classes ≡ replicate states 0 → Refining states actions limit 1 next classes

@@ -13,13 +13,10 @@ use Rattle.automaton.specs.Partition.{classOf, SameSignature, Partition,
 use Rattle.base.proofs.Lists.{getD-within}
 use Rattle.automaton.proofs.Classes.{related-class, mark-class}
 use Rattle.automaton.proofs.Compared.{behindOf, signature-equivalence}
-use Rattle.automaton.proofs.Counted.{Classified, unchanged}
+use Rattle.automaton.specs.Refining.{Classified, Sound}
+use Rattle.automaton.proofs.Counted.{unchanged}
 use Rattle.automaton.proofs.Entries.{Matched, both-trip, both-go, matched-related, alike-matched}
 use Rattle.automaton.proofs.Splits.{over-map, partition-map}
-
--- Classes coarser than alikeness: alike states have one class.
-pub record Sound (mark states actions : ℕ) (next classes : List ℕ) : Type 0 where
-  pub same : (s t : ℕ) → s < states → t < states → AlikeStates mark actions next s t → classOf classes s ≡ classOf classes t
 
 module _ (mark states actions : ℕ) (next classes : List ℕ) (m : Machine mark states actions next) (paired : length classes ≡ states) where
   abbrev entry : ℕ → ℕ → ℕ

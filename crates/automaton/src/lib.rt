@@ -1,5 +1,6 @@
 // Minimisation of a deterministic machine: partition refinement and the quotient.
 // A machine is a flat list of next states, entry s * actions + a for action a in state s. An entry that is no state's number is a trip.
+mod distances;
 mod minimal;
 mod refinement;
 mod signature;

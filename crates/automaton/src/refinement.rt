@@ -1,5 +1,7 @@
 // Partition refinement, pass by pass, until a pass finds no class more.
 use crate::Refined;
+use crate::distances::measure;
+use crate::distances::split;
 use crate::signature::class_behind;
 use crate::signature::class_of;
 use base::clear;
@@ -7,6 +9,7 @@ use base::copy;
 ghost use Prim.Native.Nat.{ℕ, _+_, _<_};
 ghost use lib.ListN.{length};
 ghost use Rattle.automaton.specs.Machine.{Machine, AlikeStates};
+ghost use Rattle.automaton.specs.Refining.{BeginsWith};
 ghost use Rattle.automaton.specs.Partition.{SameSignature, SplitsTo, ClassFound, Searchable, Refinable, RestrictedGrowth};
 
 // The lowest class whose first member has the signature of s, or count where none has. The search begins at the class of s so far.
@@ -71,6 +74,29 @@ fn pass(
     Refined::Classes(count)
 }
 
+// The classes to begin with: one of all states, or of more than eight states those of one distance from a trip. Both lists behind them are scratch.
+fn begin(
+    next: &[u16],
+    actions: usize,
+    limit: usize,
+    classes: &mut [u8],
+    far: &mut [u8],
+    firsts: &mut [usize],
+) -> Refined
+    requires { ⌜ Refinable actions limit (now next) (now classes) (now far) (now firsts) ⌝ }
+    ensures { λ r. ⌜ BeginsWith (length (now (classes .entry))) actions limit (now (next .entry)) r (now (classes .exit)) ⌝ }
+{
+    if classes.len() <= 8 {
+        clear(classes);
+        return Refined::Classes(1);
+    }
+    if measure(next, actions, far) {
+        return split(far, classes, firsts, limit);
+    }
+    clear(classes);
+    Refined::Classes(1)
+}
+
 // The classes of alike states, with their first members, or that there are more classes than the limit. `other` is scratch.
 pub fn refine(
     next: &[u16],
@@ -83,8 +109,11 @@ pub fn refine(
     requires { ⌜ Refinable actions limit (now next) (now classes) (now other) (now firsts) ⌝ }
     ensures { λ r. ⌜ ((mark : ℕ) → Machine mark (length (now (classes .entry))) actions (now (next .entry)) → SplitsTo (AlikeStates mark actions (now (next .entry))) (length (now (classes .entry))) limit r (now (classes .exit)) (now (firsts .exit))) ⌝ }
 {
-    clear(classes);
-    let mut count = 1;
+    let begun = begin(next, actions, limit, classes, other, firsts);
+    let Refined::Classes(first) = begun else {
+        return Refined::TooMany;
+    };
+    let mut count = first;
     loop {
         let found = pass(next, classes, other, firsts, actions, limit);
         let Refined::Classes(finer) = found else {

@@ -5,7 +5,7 @@ ghost use lib.ListN.{length, getD};
 ghost use Rattle.automaton.specs.Partition.{classOf};
 
 // An entry as an index.
-fn index(x: u16) -> usize
+pub fn index(x: u16) -> usize
     ensures { λ r. ⌜ r ≡ x ⌝ }
 {
     x as usize

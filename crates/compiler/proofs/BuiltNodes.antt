@@ -31,7 +31,7 @@ use Rattle.explore.specs.Explored.{OverReached}
 use Rattle.machine_rows.specs.Machines.{OverStates, RowsFor}
 use Rattle.machine_rows.proofs.Sequences as machine
 use Rattle.node_rules.specs.Nodes.{tripsNode, nodeRule, Tables, partOf, ruleOn, rememberedAt}
-use Rattle.node_rules.specs.Lowering.{rulesOf}
+use Rattle.node_rules.specs.SheetRules.{sheetRules}
 use Rattle.node_rules.proofs.NodeRules.{RightRule, policy-right}
 use Rattle.node_rules.proofs.Facts.{NodeFacts, node-facts, rule-facts}
 use Rattle.rule_rows.specs.Lists.{RuleBuilt, BuiltTo}
@@ -46,13 +46,13 @@ pub policy-node : {mode : Mode} {sheet : Sheet} {types : List TypedNode} → Sou
 policy-node right n h {m} {k} e = record { used = typed-used right n h (typed-policy e); mode = m; bound = k; is = e }
 
 module _ {mode : Mode} {sheet : Sheet} {types : List TypedNode} (right : SoundSheet mode sheet types) (valueLimit rowLimit : ℕ) (small : rowLimit ≤ 64)
-    (n : ℕ) (within : n ≤ sheet .count) (work : List ℕ) (built : BuiltTo (rulesOf sheet types) (sheet .actions) valueLimit rowLimit n work) where
+    (n : ℕ) (within : n ≤ sheet .count) (work : List ℕ) (built : BuiltTo (sheetRules sheet types) (sheet .actions) valueLimit rowLimit n work) where
   abbrev A : ℕ
   A = sheet .actions
 
   -- the rows that stand in the slots
   abbrev pub tables : Tables
-  tables = slotTables (rulesOf sheet types) A valueLimit rowLimit n work built
+  tables = slotTables (sheetRules sheet types) A valueLimit rowLimit n work built
 
   -- a policy node i, up to n, whose parts have their rows
   module _ (i : ℕ) (low : i ≤ n) (here : i < sheet .count) (policy : PolicyNode sheet types i)
@@ -60,14 +60,14 @@ module _ {mode : Mode} {sheet : Sheet} {types : List TypedNode} (right : SoundSh
     facts : NodeFacts sheet types i (policy .mode) (policy .bound)
     facts = node-facts sheet types right i here (policy .is)
 
-    lowered : RightRule sheet (PolicyBefore (typeAt types) i) (nodeRule sheet i) (ruleOf (propositionsOf sheet) (nodePolicy sheet i)) (ruleAt (rulesOf sheet types) i)
+    lowered : RightRule sheet (PolicyBefore (typeAt types) i) (nodeRule sheet i) (ruleOf (propositionsOf sheet) (nodePolicy sheet i)) (ruleAt (sheetRules sheet types) i)
     lowered = policy-right sheet (PolicyBefore (typeAt types) i) types right i here (λ j p. p) (policy .is)
 
     slots : (j : ℕ) → PolicyBefore (typeAt types) i j → partAt A work j ≡ partOf sheet tables j
     slots j e =
         let b = e .before in
         let l = policy-right sheet (λ k. Unit {0}) types right j (omega arith) (λ k p. tt) (e .is) in
-        slot-part (rulesOf sheet types) A valueLimit rowLimit n work built j (omega arith) (l .code) (l .is)
+        slot-part (sheetRules sheet types) A valueLimit rowLimit n work built j (omega arith) (l .code) (l .is)
 
     abbrev step : Step ℕ
     step = codeStep A work (lowered .code)
@@ -96,7 +96,7 @@ module _ {mode : Mode} {sheet : Sheet} {types : List TypedNode} (right : SoundSh
     -- a node whose slot is built is inside the limits
     is-built : i < n → Built sheet tables valueLimit rowLimit i
     is-built h =
-        let t = slot-table (rulesOf sheet types) A valueLimit rowLimit n work built i h (lowered .code) (lowered .is) in
+        let t = slot-table (sheetRules sheet types) A valueLimit rowLimit n work built i h (lowered .code) (lowered .is) in
         record {
           few-values = few-values (t .0 .few-values);
           rows = t .0 .rows;
@@ -125,7 +125,7 @@ module _ {mode : Mode} {sheet : Sheet} {types : List TypedNode} (right : SoundSh
       from b = record { rows = b .rows; few = let h = b .few-rows in omega arith; fits = b .fits }
 
   -- node n is a rule
-  module _ (inside : n < sheet .count) (rule : NodeRule) (is : ruleAt (rulesOf sheet types) n ≡ AsRule rule) where
+  module _ (inside : n < sheet .count) (rule : NodeRule) (is : ruleAt (sheetRules sheet types) n ≡ AsRule rule) where
     policy : PolicyNode sheet types n
     policy = policy-node right n inside (rule-facts sheet types right n inside rule is .is)
 
@@ -150,7 +150,7 @@ module _ {mode : Mode} {sheet : Sheet} {types : List TypedNode} (right : SoundSh
         (over-rows n (omega arith) inside policy (rows-before n (omega arith)) (subst (λ (r : NodeRule). OverStates A (codeStep A work r) (codeStart A work r) rowLimit) same o)))
 
   -- the rows that a slot before n was built with are its node's
-  pub last-rows : (i : ℕ) → i < n → (policy : PolicyNode sheet types i) (rule : NodeRule) → ruleAt (rulesOf sheet types) i ≡ AsRule rule
+  pub last-rows : (i : ℕ) → i < n → (policy : PolicyNode sheet types i) (rule : NodeRule) → ruleAt (sheetRules sheet types) i ≡ AsRule rule
       → (b : RuleBuilt A valueLimit rowLimit work i rule) → RowsOf A (tripsNode sheet i) (b .rows) (take (b .rows * A) (slotAt work i))
   last-rows i h policy rule is b =
       rows-are i (omega arith) (omega arith) policy (rows-before i (omega arith)) (b .rows) (take (b .rows * A) (slotAt work i))

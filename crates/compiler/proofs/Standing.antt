@@ -1,7 +1,7 @@
 -- What building the rules of a sound sheet answers is what the sheet gives: 8 or 9 at the first node over a limit, or the rows of every node in its
 -- slot.
 -- Assumes nothing.
-use mathlib.Core.Path.{_≡_, sym, _∙_, ap, subst}
+use mathlib.Core.Path.{_≡_, subst}
 use mathlib.Core.List.{List, []}
 use Prim.Native.Nat.{ℕ, _*_, _-_, _≤_, _<_}
 use native.Mathlib.Omega.{arith}
@@ -19,21 +19,20 @@ use Rattle.rules.specs.Rules.{slotAt}
 use Rattle.machine_rows.proofs.BuiltSlots.{built-readable}
 use Rattle.rule_rows.specs.Lists.{AllBuildable, BuiltTo, LastRows, ValuesOver, RowsOver}
 use Rattle.node_rules.specs.Nodes.{tripsNode, Tables}
-use Rattle.node_rules.specs.Lowering.{rulesOf}
+use Rattle.node_rules.specs.SheetRules.{sheetRules}
 use Rattle.node_rules.proofs.NodeRules.{policy-right}
 use Rattle.node_rules.proofs.Facts.{rule-facts}
 use Rattle.compiler.specs.Limits.{Built}
 use Rattle.compiler.specs.Compiles.{PolicyNode, Builds, passes}
-use Rattle.compiler.specs.Building.{Stands, NodesStand, NodesTo, SheetTo}
-use Rattle.compiler.specs.declared.NodesBuilt.{NodesBuilt}
-use Rattle.compiler.specs.declared.NodesBuilt.the-variants.{NotSound, ValuesAt, RowsAt, Rows}
+use Rattle.compiler.specs.Building.{Stands, NodesStand, SheetTo}
+use Rattle.compiler.specs.declared.NodesBuilt.the-variants.{ValuesAt, RowsAt, Rows}
 use Rattle.compiler.proofs.BuiltNodes as nodes
 use Rattle.compiler.proofs.SlotTables.{slot-part}
 
 module _ {mode : Mode} {sheet : Sheet} {types : List TypedNode} (right : SoundSheet mode sheet types) (valueLimit rowLimit : ℕ) where
   -- the rules of the sheet can be built
   pub buildable : (work numbers : List ℕ) → Workable valueLimit rowLimit work numbers
-      → AllBuildable (rulesOf sheet types) (sheet .count) (sheet .actions) valueLimit rowLimit work numbers
+      → AllBuildable (sheetRules sheet types) (sheet .count) (sheet .actions) valueLimit rowLimit work numbers
   buildable work numbers lent =
       record {
         few = right .formed .few-nodes;
@@ -49,19 +48,19 @@ module _ {mode : Mode} {sheet : Sheet} {types : List TypedNode} (right : SoundSh
       }
 
   module _ (small : rowLimit ≤ 64) (work : List ℕ) where
-    pub values-over : (n : ℕ) → ValuesOver (rulesOf sheet types) (sheet .count) (sheet .actions) valueLimit rowLimit n work
+    values-over : (n : ℕ) → ValuesOver (sheetRules sheet types) (sheet .count) (sheet .actions) valueLimit rowLimit n work
         → Builds mode sheet types valueLimit rowLimit (refused 8 n) []
     values-over n o = let h = o .inside in nodes.stops-values right valueLimit rowLimit small n (omega arith) work (o .earlier) (o .inside) (o .rule) (o .is) (o .over)
 
-    pub rows-over : (n : ℕ) → RowsOver (rulesOf sheet types) (sheet .count) (sheet .actions) valueLimit rowLimit n work
+    rows-over : (n : ℕ) → RowsOver (sheetRules sheet types) (sheet .count) (sheet .actions) valueLimit rowLimit n work
         → Builds mode sheet types valueLimit rowLimit (refused 9 n) []
     rows-over n o =
         let h = o .inside in
         nodes.stops-rows right valueLimit rowLimit small n (omega arith) work (o .earlier) (o .inside) (o .rule) (o .is) (o .few-values) (o .over)
 
     -- every rule is built
-    module _ (built : BuiltTo (rulesOf sheet types) (sheet .actions) valueLimit rowLimit (sheet .count) work) (count : ℕ)
-        (newest : LastRows (rulesOf sheet types) (sheet .actions) valueLimit rowLimit (sheet .count) count work) where
+    module _ (built : BuiltTo (sheetRules sheet types) (sheet .actions) valueLimit rowLimit (sheet .count) work) (count : ℕ)
+        (newest : LastRows (sheetRules sheet types) (sheet .actions) valueLimit rowLimit (sheet .count) count work) where
       abbrev A : ℕ
       A = sheet .actions
 
@@ -96,10 +95,10 @@ module _ {mode : Mode} {sheet : Sheet} {types : List TypedNode} (right : SoundSh
           let l = policy-right sheet (λ k. Unit {0}) types right i h (λ k q. tt) (p .is) in
           record {
             readable = built-readable work i (built .each i h (l .code) (l .is)) small (omega (arith, right .formed .few-nodes));
-            machine = slot-part (rulesOf sheet types) A valueLimit rowLimit (sheet .count) work built i h (l .code) (l .is);
+            machine = slot-part (sheetRules sheet types) A valueLimit rowLimit (sheet .count) work built i h (l .code) (l .is);
           }
 
-      pub nodes-stand : NodesStand sheet types valueLimit rowLimit count work
+      nodes-stand : NodesStand sheet types valueLimit rowLimit count work
       nodes-stand =
           record {
             tables = tables;
@@ -110,10 +109,18 @@ module _ {mode : Mode} {sheet : Sheet} {types : List TypedNode} (right : SoundSh
             entries = same .1;
           }
 
--- what the nodes of a judged sheet give is what its bytes give
-pub nodes-to-sheet : (bytes : List ℕ) {mode : Mode} {sheet : Sheet} {types : List TypedNode} (valueLimit rowLimit : ℕ) (work : List ℕ)
-    → judge bytes ≡ sound mode sheet types → (b : NodesBuilt) → NodesTo mode sheet types valueLimit rowLimit b work → SheetTo bytes valueLimit rowLimit b sheet work
-nodes-to-sheet bytes valueLimit rowLimit work judged (NotSound f) e = absurd e
-nodes-to-sheet bytes valueLimit rowLimit work judged (ValuesAt n) e = passes _ _ _ judged _ _ e
-nodes-to-sheet bytes valueLimit rowLimit work judged (RowsAt n) e = passes _ _ _ judged _ _ e
-nodes-to-sheet bytes {sheet = sheet} {types} valueLimit rowLimit work judged (Rows m rows) e = record { types = types; judged = judged ∙ ap (λ (x : Mode). sound x sheet types) (sym (e .0)); nodes = e .1 }
+-- what building the rules of a judged sheet gives is what its bytes give
+module _ (bytes : List ℕ) {mode : Mode} {sheet : Sheet} {types : List TypedNode} (valueLimit rowLimit : ℕ) (judged : judge bytes ≡ sound mode sheet types)
+    (right : SoundSheet mode sheet types) (small : rowLimit ≤ 64) (work : List ℕ) where
+  pub sheet-values : (n : ℕ) → ValuesOver (sheetRules sheet types) (sheet .count) (sheet .actions) valueLimit rowLimit n work
+      → SheetTo bytes valueLimit rowLimit (ValuesAt n) sheet work
+  sheet-values n o = passes _ _ _ judged _ _ (values-over right valueLimit rowLimit small work n o)
+
+  pub sheet-rows : (n : ℕ) → RowsOver (sheetRules sheet types) (sheet .count) (sheet .actions) valueLimit rowLimit n work
+      → SheetTo bytes valueLimit rowLimit (RowsAt n) sheet work
+  sheet-rows n o = passes _ _ _ judged _ _ (rows-over right valueLimit rowLimit small work n o)
+
+  pub sheet-built : (rows : ℕ) → BuiltTo (sheetRules sheet types) (sheet .actions) valueLimit rowLimit (sheet .count) work
+      → LastRows (sheetRules sheet types) (sheet .actions) valueLimit rowLimit (sheet .count) rows work
+      → SheetTo bytes valueLimit rowLimit (Rows mode rows) sheet work
+  sheet-built rows built newest = record { types = types; judged = judged; nodes = nodes-stand right valueLimit rowLimit small work built rows newest }

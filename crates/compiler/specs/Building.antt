@@ -14,7 +14,7 @@ use Rattle.sheet.specs.Judge.{judge}
 use Rattle.rules.specs.Rules.{slotAt, partAt, Readable}
 use Rattle.node_rules.specs.Nodes.{Tables, partOf}
 use Rattle.compiler.specs.Limits.{Built}
-use Rattle.compiler.specs.Compiles.{PolicyNode, BuiltBefore, Builds, Compiles}
+use Rattle.compiler.specs.Compiles.{PolicyNode, BuiltBefore, Compiles}
 use Rattle.compiler.specs.declared.NodesBuilt.{NodesBuilt}
 use Rattle.compiler.specs.declared.NodesBuilt.the-variants.{NotSound, ValuesAt, RowsAt, Rows}
 
@@ -31,13 +31,6 @@ pub record NodesStand (sheet : Sheet) (types : List TypedNode) (valueLimit rowLi
   pub last : Built sheet tables valueLimit rowLimit (sheet .count - 1)
   pub counted : rows ≡ last .rows
   pub entries : take (rows * sheet .actions) (slotAt work (sheet .count - 1)) ≡ tables (sheet .count - 1)
-
--- What building a sheet that passes checks 1 to 7 answers, and leaves in the work area.
-abbrev pub NodesTo : Mode → (sheet : Sheet) → List TypedNode → (valueLimit rowLimit : ℕ) → NodesBuilt → List ℕ → Type 0
-NodesTo mode sheet types valueLimit rowLimit (NotSound f) work = ⊥
-NodesTo mode sheet types valueLimit rowLimit (ValuesAt n) work = Builds mode sheet types valueLimit rowLimit (refused 8 n) []
-NodesTo mode sheet types valueLimit rowLimit (RowsAt n) work = Builds mode sheet types valueLimit rowLimit (refused 9 n) []
-NodesTo mode sheet types valueLimit rowLimit (Rows m rows) work = (m ≡ mode) × NodesStand sheet types valueLimit rowLimit rows work
 
 -- The bytes are judged to be this sheet, of this mode, and its nodes stand.
 pub record SheetStands (bytes : List ℕ) (valueLimit rowLimit : ℕ) (mode : Mode) (sheet : Sheet) (rows : ℕ) (work : List ℕ) : Type 0 where

@@ -1,40 +1,14 @@
 // From a sheet's bytes to the rows of its nodes, each in its slot of the work area.
 use crate::BuiltSheet;
 use crate::NodesBuilt;
+use node_rules::formula_sets;
+use node_rules::rules_of;
 use rule_rows::AllBuilt;
 use sheet::SheetFound;
-use syntax::Sheet;
-use syntax::TypedNode;
-use trace::Mode;
-ghost use Rattle.typing.specs.Typed.{SoundSheet};
 ghost use Rattle.making.specs.Making.{Workable};
-ghost use Rattle.compiler.specs.Building.{NodesTo, SheetTo};
+ghost use Rattle.compiler.specs.Building.{SheetTo};
 
-// Builds the rows of a sound sheet's nodes.
-fn build_nodes(
-    mode: Mode,
-    sheet: Sheet,
-    types: [TypedNode; 64],
-    work: &mut [u8],
-    values: &mut [u64],
-    value_limit: usize,
-    row_limit: usize,
-) -> NodesBuilt
-    requires { ⌜ SoundSheet mode sheet types ⌝ }
-    requires { ⌜ Workable «value_limit» «row_limit» (now work) (now values) ⌝ }
-    ensures { λ r. ⌜ NodesTo mode sheet types «value_limit» «row_limit» r (now (work .exit)) ⌝ }
-{
-    let rules = node_rules::rules_of(sheet, types);
-    let count = sheet.count;
-    let actions = sheet.actions;
-    match rule_rows::build_all(rules, count, actions, value_limit, row_limit, work, values) {
-        AllBuilt::ValuesAt(n) => NodesBuilt::ValuesAt(n),
-        AllBuilt::RowsAt(n) => NodesBuilt::RowsAt(n),
-        AllBuilt::Rows(rows) => NodesBuilt::Rows { mode, rows },
-    }
-}
-
-// Judges a sheet, and builds the rows of its nodes.
+// Judges a sheet, works out the sets of its formulas, and builds the rows of its policy nodes, which know the formulas by their sets alone.
 pub fn build_sheet(
     sheet: &[u8],
     work: &mut [u8],
@@ -55,8 +29,34 @@ pub fn build_sheet(
         },
         SheetFound::Policy(mode) => {
             let types = judged.types;
-            let built = build_nodes(mode, read, types, work, values, value_limit, row_limit);
-            BuiltSheet { built, sheet: read }
+            let nodes = read.nodes;
+            let count = read.count;
+            let actions = read.actions;
+            let propositions = read.propositions;
+            let sets = formula_sets(nodes, types, count, &propositions, actions);
+            let rules = rules_of(nodes, types, &sets, actions, count);
+            match rule_rows::build_all(
+                rules,
+                count,
+                actions,
+                value_limit,
+                row_limit,
+                work,
+                values,
+            ) {
+                AllBuilt::ValuesAt(n) => BuiltSheet {
+                    built: NodesBuilt::ValuesAt(n),
+                    sheet: read,
+                },
+                AllBuilt::RowsAt(n) => BuiltSheet {
+                    built: NodesBuilt::RowsAt(n),
+                    sheet: read,
+                },
+                AllBuilt::Rows(rows) => BuiltSheet {
+                    built: NodesBuilt::Rows { mode, rows },
+                    sheet: read,
+                },
+            }
         }
     }
 }

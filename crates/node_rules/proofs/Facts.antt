@@ -26,7 +26,8 @@ use Rattle.rules.specs.declared.Lowered.the-variants.{AsRule}
 use Rattle.rules.specs.declared.NodeRule.{NodeRule}
 use Rattle.rules.specs.declared.RuleAt.{RuleAt}
 use Rattle.node_rules.specs.Nodes.{nodeRule}
-use Rattle.node_rules.specs.Lowering.{SameRule, opens, filters, equal, rulesOf}
+use Rattle.node_rules.specs.Lowering.{SameRule, opens, filters, equal}
+use Rattle.node_rules.specs.SheetRules.{sheetRules}
 use Rattle.node_rules.proofs.NodeRules.{rule-typed, policy-right}
 
 -- A policy node has its type, is the policy of its rule over earlier policy nodes, and a count from 1 to 60.
@@ -42,7 +43,7 @@ pub record RuleFacts (sheet : Sheet) (types : List TypedNode) (n : ℕ) (code : 
   pub bound : Bound
   pub is : typeAt types n ≡ Policy mode bound
   pub same : SameRule (sheet .actions) (nodeRule sheet n) (ruleOver code)
-  pub parts : AllParts (EarlierRule (rulesOf sheet types) n) (ruleOver code)
+  pub parts : AllParts (EarlierRule (sheetRules sheet types) n) (ruleOver code)
   pub count : CountFits (ruleOver code)
 
 -- rules that say the same have the same parts and the same count
@@ -58,7 +59,7 @@ same-count (equal r) c = c
 
 module _ {mode : Mode} (sheet : Sheet) (types : List TypedNode) (sound : SoundSheet mode sheet types) where
   abbrev rules : List RuleAt
-  rules = rulesOf sheet types
+  rules = sheetRules sheet types
 
   module _ (n : ℕ) (below : n < sheet .count) where
     pub node-facts : {m : Mode} {k : Bound} → typeAt types n ≡ Policy m k → NodeFacts sheet types n m k
@@ -72,10 +73,10 @@ module _ {mode : Mode} (sheet : Sheet) (types : List TypedNode) (sound : SoundSh
         }
 
     -- a policy has a rule
-    pub policy-rule : {m : Mode} {k : Bound} → typeAt types n ≡ Policy m k → (code : NodeRule) × (ruleAt (rulesOf sheet types) n ≡ AsRule code)
+    pub policy-rule : {m : Mode} {k : Bound} → typeAt types n ≡ Policy m k → (code : NodeRule) × (ruleAt (sheetRules sheet types) n ≡ AsRule code)
     policy-rule e = let r = policy-right sheet (λ i. Unit {0}) types sound n below (λ i p. tt) e in (r .code, r .is)
 
-  pub rule-facts : (n : ℕ) → n < sheet .count → (code : NodeRule) → ruleAt (rulesOf sheet types) n ≡ AsRule code → RuleFacts sheet types n code
+  pub rule-facts : (n : ℕ) → n < sheet .count → (code : NodeRule) → ruleAt (sheetRules sheet types) n ≡ AsRule code → RuleFacts sheet types n code
   rule-facts n below code e = by (typeAt types n) refl
     where
       earlier : (i : ℕ) → PolicyBefore (typeAt types) n i → EarlierRule rules n i

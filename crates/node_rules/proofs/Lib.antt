@@ -1,4 +1,4 @@
+pub mod ActionSets
 pub mod Facts
 pub mod FormulaSets
 pub mod NodeRules
-pub mod PropositionSets

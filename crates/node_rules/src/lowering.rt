@@ -1,44 +1,34 @@
-// Lowering each policy node to its rule.
-use crate::sets::formula_sets;
+// Lowering each policy node to its rule. Of a formula it has the set alone.
+use crate::sets::others;
 use crate::sets::set_at;
 use rules::Lowered;
 use rules::NodeRule;
 use rules::RuleAt;
+use syntax::ListedNode;
 use syntax::Node;
 use syntax::NodeType;
-use syntax::Sheet;
 use syntax::TypedNode;
-use syntax::type_at;
 use trace::Mode;
 ghost use mathlib.Core.Path.{_≡_};
-ghost use Rattle.syntax.specs.Formed.{Formed};
-ghost use Rattle.syntax.specs.Types.{typeAt};
-ghost use Rattle.node_rules.specs.Lowering.{setAt, isEnforced, byMode, lowered, rulesOf};
+ghost use Prim.Native.Nat.{_≤_};
+ghost use lib.ListN.{length};
+ghost use Rattle.node_rules.specs.ActionSets.{setAt};
+ghost use Rattle.node_rules.specs.Lowering.{byMode, lowered, rulesOf};
 
-// Whether a node is an enforced policy.
-fn is_enforced(node: NodeType) -> bool
-    ensures { λ r. ⌜ r ≡ isEnforced node ⌝ }
+// The rule of an And or an Or, by its mode.
+fn by_mode(mode: Mode, watched: NodeRule, enforced: NodeRule) -> NodeRule
+    ensures { λ r. ⌜ r ≡ byMode mode watched enforced ⌝ }
 {
-    match node {
-        NodeType::Unused => false,
-        NodeType::Formula => false,
-        NodeType::Policy(m, _) => match m {
-            Mode::Watched => false,
-            Mode::Enforced => true,
-        },
+    match mode {
+        Mode::Watched => watched,
+        Mode::Enforced => enforced,
     }
 }
 
-// The rule for parts of the first one's mode.
-fn by_mode(part: NodeType, watched: NodeRule, enforced: NodeRule) -> NodeRule
-    ensures { λ r. ⌜ r ≡ byMode part watched enforced ⌝ }
-{
-    if is_enforced(part) { enforced } else { watched }
-}
-
-// What a node is lowered to, from the types and the sets of the nodes before it.
-fn lower(node: Node, types: [TypedNode; 64], sets: [u16; 64]) -> Lowered
-    ensures { λ r. ⌜ r ≡ lowered (typeAt types) (setAt sets) node ⌝ }
+// What a node of a mode is lowered to, from the sets of the formulas before it.
+fn lower(node: Node, mode: Mode, actions: usize, sets: &[u16; 64]) -> Lowered
+    requires { ⌜ (actions ≤ 16) × (length (now sets) ≡ 64) ⌝ }
+    ensures { λ r. ⌜ r ≡ lowered mode actions (setAt (now (sets .entry))) node ⌝ }
 {
     match node {
         Node::True => Lowered::NoRule,
@@ -48,16 +38,16 @@ fn lower(node: Node, types: [TypedNode; 64], sets: [u16; 64]) -> Lowered
         Node::Conjunction(_, _) => Lowered::NoRule,
         Node::Disjunction(_, _) => Lowered::NoRule,
         Node::Now(a) => Lowered::AsRule(NodeRule::Opening(set_at(sets, a))),
-        Node::Holds(a) => Lowered::AsRule(NodeRule::Opening(65535 - set_at(sets, a))),
+        Node::Holds(a) => Lowered::AsRule(NodeRule::Opening(others(actions, set_at(sets, a)))),
         Node::Count(k) => Lowered::AsRule(NodeRule::Counting(k)),
         Node::Not(a) => Lowered::AsRule(NodeRule::Same(a)),
         Node::And(a, b) => Lowered::AsRule(by_mode(
-            type_at(types, a as usize),
+            mode,
             NodeRule::Both(a, b),
             NodeRule::Either(a, b),
         )),
         Node::Or(a, b) => Lowered::AsRule(by_mode(
-            type_at(types, a as usize),
+            mode,
             NodeRule::Either(a, b),
             NodeRule::Both(a, b),
         )),
@@ -73,13 +63,16 @@ fn lower(node: Node, types: [TypedNode; 64], sets: [u16; 64]) -> Lowered
 }
 
 // The rule of each used policy node; no other has one.
-pub fn rules_of(sheet: Sheet, types: [TypedNode; 64]) -> [RuleAt; 64]
-    requires { ⌜ Formed sheet ⌝ }
-    ensures { λ r. ⌜ r ≡ rulesOf sheet types ⌝ }
+pub fn rules_of(
+    nodes: [ListedNode; 64],
+    types: [TypedNode; 64],
+    sets: &[u16; 64],
+    actions: usize,
+    count: usize,
+) -> [RuleAt; 64]
+    requires { ⌜ (actions ≤ 16) × (count ≤ 64) × (length (now sets) ≡ 64) ⌝ }
+    ensures { λ r. ⌜ r ≡ rulesOf nodes types (now (sets .entry)) actions count ⌝ }
 {
-    let count = sheet.count;
-    let nodes = sheet.nodes;
-    let sets = formula_sets(sheet, types);
     let mut rules = [RuleAt {
         of: Lowered::NoRule,
     }; 64];
@@ -92,11 +85,11 @@ pub fn rules_of(sheet: Sheet, types: [TypedNode; 64]) -> [RuleAt; 64]
         match of {
             NodeType::Unused => {}
             NodeType::Formula => {}
-            NodeType::Policy(_, _) => {
+            NodeType::Policy(mode, _) => {
                 let listed = nodes[i];
                 let node = listed.node;
                 rules[i] = RuleAt {
-                    of: lower(node, types, sets),
+                    of: lower(node, mode, actions, sets),
                 };
             }
         }

@@ -1,12 +1,16 @@
 // The sets of actions that satisfy the formulas of a sheet.
+use syntax::ListedNode;
 use syntax::Node;
 use syntax::NodeType;
-use syntax::Sheet;
 use syntax::TypedNode;
 ghost use mathlib.Core.Path.{_≡_};
 ghost use Prim.Native.Nat.{_^_, _≤_, _<_};
-ghost use Rattle.syntax.specs.Formed.{ArgumentFits, Formed};
-ghost use Rattle.node_rules.specs.Lowering.{propositionSet, setOf, setAt, setsOf};
+ghost use lib.ListN.{length};
+ghost use Rattle.trace.specs.declared.Mode.{Mode};
+ghost use Rattle.syntax.specs.Formed.{ArgumentFits};
+ghost use Rattle.typing.specs.Typed.{SoundSheet};
+ghost use Rattle.node_rules.specs.ActionSets.{everyAction, setAt};
+ghost use Rattle.node_rules.specs.FormulaSets.{propositionSet, setFrom, sheetOf, setsOf};
 
 // The set of one action.
 fn only(action: usize) -> u16
@@ -16,14 +20,27 @@ fn only(action: usize) -> u16
     1u16 << action
 }
 
-// The set of the actions that satisfy proposition p.
-fn proposition_set(sheet: Sheet, p: u8) -> u16
-    requires { ⌜ sheet .actions ≤ 16 ⌝ }
-    requires { ⌜ p < 16 ⌝ }
-    ensures { λ r. ⌜ r ≡ propositionSet (sheet .propositions) p (sheet .actions) ⌝ }
+// The set of all actions.
+fn every_action(actions: usize) -> u16
+    requires { ⌜ actions ≤ 16 ⌝ }
+    ensures { λ r. ⌜ r ≡ everyAction actions ⌝ }
 {
-    let actions = sheet.actions;
-    let propositions = sheet.propositions;
+    ((1u32 << actions) - 1) as u16
+}
+
+// The actions that are not in a set.
+pub fn others(actions: usize, set: u16) -> u16
+    requires { ⌜ actions ≤ 16 ⌝ }
+    ensures { λ r. ⌜ r ≡ Rattle.node_rules.specs.ActionSets.others actions set ⌝ }
+{
+    every_action(actions) & (65535 - set)
+}
+
+// The actions that satisfy proposition p.
+fn proposition_set(propositions: &[u16; 16], actions: usize, p: u8) -> u16
+    requires { ⌜ (actions ≤ 16) × (p < 16) ⌝ }
+    ensures { λ r. ⌜ r ≡ propositionSet (now (propositions .entry)) actions p ⌝ }
+{
     let mut set: u16 = 0;
     let mut a = 0;
     while a < actions {
@@ -36,23 +53,24 @@ fn proposition_set(sheet: Sheet, p: u8) -> u16
 }
 
 // The set of node i, empty past the end of the list.
-pub fn set_at(sets: [u16; 64], i: u8) -> u16
-    ensures { λ r. ⌜ r ≡ setAt sets i ⌝ }
+pub fn set_at(sets: &[u16; 64], i: u8) -> u16
+    requires { ⌜ length (now sets) ≡ 64 ⌝ }
+    ensures { λ r. ⌜ r ≡ setAt (now (sets .entry)) i ⌝ }
 {
     if i < 64 { sets[i as usize] } else { 0 }
 }
 
 // The set of a node, from those of the nodes before it.
-fn formula_set(node: Node, sheet: Sheet, sets: [u16; 64]) -> u16
-    requires { ⌜ sheet .actions ≤ 16 ⌝ }
+fn formula_set(node: Node, propositions: &[u16; 16], actions: usize, sets: &[u16; 64]) -> u16
+    requires { ⌜ (actions ≤ 16) × (length (now sets) ≡ 64) ⌝ }
     requires { ⌜ ArgumentFits node ⌝ }
-    ensures { λ r. ⌜ r ≡ setOf sheet (setAt sets) node ⌝ }
+    ensures { λ r. ⌜ r ≡ setFrom (now (propositions .entry)) actions (setAt (now (sets .entry))) node ⌝ }
 {
     match node {
-        Node::True => 65535,
+        Node::True => every_action(actions),
         Node::False => 0,
-        Node::Proposition(p) => proposition_set(sheet, p),
-        Node::Negation(a) => 65535 - set_at(sets, a),
+        Node::Proposition(p) => proposition_set(propositions, actions, p),
+        Node::Negation(a) => others(actions, set_at(sets, a)),
         Node::Conjunction(a, b) => set_at(sets, a) & set_at(sets, b),
         Node::Disjunction(a, b) => set_at(sets, a) | set_at(sets, b),
         Node::Now(_) => 0,
@@ -72,13 +90,17 @@ fn formula_set(node: Node, sheet: Sheet, sets: [u16; 64]) -> u16
     }
 }
 
-// The set of each used formula node: bit a for action a.
-pub fn formula_sets(sheet: Sheet, types: [TypedNode; 64]) -> [u16; 64]
-    requires { ⌜ Formed sheet ⌝ }
-    ensures { λ r. ⌜ r ≡ setsOf sheet types ⌝ }
+// The set of each used formula node of a sound sheet: bit a for action a.
+pub fn formula_sets(
+    nodes: [ListedNode; 64],
+    types: [TypedNode; 64],
+    count: usize,
+    propositions: &[u16; 16],
+    actions: usize,
+) -> [u16; 64]
+    requires { ⌜ ((mode : Mode) × SoundSheet mode (sheetOf actions (now propositions) count nodes) types) ⌝ }
+    ensures { λ r. ⌜ r ≡ setsOf (sheetOf actions (now (propositions .entry)) count nodes) types ⌝ }
 {
-    let count = sheet.count;
-    let nodes = sheet.nodes;
     let mut sets = [0u16; 64];
     let mut n = 0;
     while n < count {
@@ -91,7 +113,7 @@ pub fn formula_sets(sheet: Sheet, types: [TypedNode; 64]) -> [u16; 64]
             NodeType::Formula => {
                 let listed = nodes[i];
                 let node = listed.node;
-                sets[i] = formula_set(node, sheet, sets);
+                sets[i] = formula_set(node, propositions, actions, &sets);
             }
             NodeType::Policy(_, _) => {}
         }

@@ -6,14 +6,14 @@ use crate::sheet::{Node, Sheet};
 use crate::trees::*;
 
 /// A node: kind, argument, parts.
-type Fields = [u8; 5];
+pub(super) type Fields = [u8; 5];
 
 /// A sheet over the roastery's actions.
 fn of(name: &str, nodes: &[Fields], stated: Stated) -> Case {
     over(name, &ROASTERY, nodes, stated)
 }
 
-fn over(name: &str, actions: &[u16], nodes: &[Fields], stated: Stated) -> Case {
+pub(super) fn over(name: &str, actions: &[u16], nodes: &[Fields], stated: Stated) -> Case {
     let node = |&[kind, argument, a, b, c]: &Fields| Node { kind, argument, parts: [a, b, c] };
     case(name, Sheet { actions: actions.to_vec(), nodes: nodes.iter().map(node).collect() }.bytes(), stated)
 }

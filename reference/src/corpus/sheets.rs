@@ -1,11 +1,13 @@
 //! The corpus of sheets: those of "A small roastery" first, then those with a stated answer, then drawn ones, at the end
-//! pairs: a sheet with spare nodes and the same without, and a Fulfilling and the same written otherwise.
+//! pairs: a sheet with spare nodes and the same without, a Fulfilling and the same written otherwise, and formulas
+//! likewise.
 
 use super::{tally, write, Corpus};
 use crate::calls::{self, VALUES, WORK};
-use crate::cases::{counted, sheets, small_roastery, spare, waits, Case, Lent};
+use crate::cases::{counted, formulas, sheets, small_roastery, spare, waits, Case, Lent};
 use crate::compile;
 use crate::generate::{lay_out, sheet, Random, Style};
+use crate::inputs::formulas::{many_formulas, rewritten};
 use crate::inputs::sheets::SORTS;
 use crate::inputs::spare::{any_spared, Spared};
 use crate::inputs::tables::Pool;
@@ -50,9 +52,14 @@ pub const OTHERWISE: [(Way, &str); 3] = [
     (Way::Late, "the same, a fulfilled by k + 1 actions"),
     (Way::Split, "the same in two parts"),
 ];
+/// Pairs of sheets with many formulas, of which each fifth is refused by 8 or 9, and their names.
+const FORMULAS: usize = 10;
+pub const MANY_FORMULAS: &str = "many formulas";
+pub const OTHER_FORMULAS: &str = "the same, formulas written otherwise";
 
 pub fn all() -> Vec<Record> {
-    let stated = [small_roastery(), waits(), sheets::all(), spare::all(), counted::all()].into_iter().flatten();
+    let stated = [small_roastery(), waits(), sheets::all(), spare::all(), counted::all(), formulas::all()];
+    let stated = stated.into_iter().flatten();
     let mut all: Vec<Record> = stated.map(|Case { name, lent, sheet, .. }| record(name, lent, sheet)).collect();
     let mut random = Random(1);
     let mut draw = |name: String, draw: &dyn Fn(&mut Random) -> Vec<u8>| {
@@ -79,6 +86,16 @@ pub fn all() -> Vec<Record> {
         let pair = drawn.find(|drawn| drawn.way == way && short(drawn) && several(drawn)).expect("a pair");
         all.push(record(WAIT.into(), Lent::Whole, pair.plain.bytes()));
         all.push(record(name.into(), Lent::Whole, pair.other.bytes()));
+    }
+    for pair in 0..FORMULAS {
+        let fits = |plain: &Sheet| match compile(&plain.bytes()) {
+            Ok(table) => pair % 5 != 4 && table[4] > 2,
+            Err(refusal) => pair % 5 == 4 && matches!(refusal.number, 8 | 9),
+        };
+        let plain = std::iter::repeat_with(|| many_formulas(&mut random)).find(fits).expect("a sheet");
+        let other = rewritten(&mut random, &plain);
+        all.push(record(MANY_FORMULAS.into(), Lent::Whole, plain.bytes()));
+        all.push(record(OTHER_FORMULAS.into(), Lent::Whole, other.bytes()));
     }
     all
 }

@@ -1,5 +1,6 @@
 //! Sheets of every sort with lists of actions, for explaining.
 
+use super::formulas::well_typed;
 use super::sheets::any_sheet;
 use super::spare::{put_between, taken_out, Spared};
 use super::texts;
@@ -54,7 +55,14 @@ pub fn waits_under_and(random: &mut Random) -> Sheet {
     conjunction(random, waits)
 }
 
-/// The sheet with some Ands behind its nodes, the last one the policy. A sheet that has no enforced node gets one.
+/// Ands over policies of many formulas, with room for seven nodes more.
+pub fn formulas_under_and(random: &mut Random) -> Sheet {
+    let drawn = well_typed(random, 64 - 7);
+    conjunction(random, drawn)
+}
+
+/// The sheet with some Ands behind its nodes, the last one the policy, at most seven nodes. A sheet that has no enforced
+/// node gets one.
 pub fn conjunction(random: &mut Random, mut sheet: Sheet) -> Sheet {
     let types = all_types(&sheet);
     let mut enforced: Vec<u8> =

@@ -1,9 +1,10 @@
-//! Runs random and damaged inputs through the library and the reference side by side, and sheets with spare nodes beside
-//! the same without.
+//! Runs random and damaged inputs through the library and the reference side by side; and pairs of sheets beside each
+//! other: with spare nodes and without, and the same rule with a Fulfilling or its formulas written otherwise.
 //! Arguments: number of calls, seed. Ends with the counts and `0 disagreements`, or status 1.
 
 mod beside;
 mod boards;
+mod formulas;
 mod lent;
 mod library;
 mod spare;
@@ -14,8 +15,9 @@ use boards::{about, any_board, number};
 use reference::board::{AREA, PLACES, RECORD};
 use reference::calls::{fields, DENIED, VALUES, WORK};
 use reference::generate::{lay_out, Random};
+use reference::inputs::formulas::{any_pair, rewritten};
 use reference::inputs::joins::any_join;
-use reference::inputs::lists::{any_list, list_for, long_list, spared_ands, waits_under_and};
+use reference::inputs::lists::{any_list, formulas_under_and, list_for, long_list, spared_ands, waits_under_and};
 use reference::inputs::sheets::any_sheet;
 use reference::inputs::spare::{any_spared, Spared};
 use reference::inputs::tables::Pool;
@@ -49,6 +51,8 @@ struct Fuzz {
     /// Pairs of a Fulfilling and the same written otherwise, likewise; and those of which 8 or 9 refuses one alone.
     waits: BTreeMap<(&'static str, u16), usize>,
     one_over: usize,
+    /// Pairs of a sheet and the same with its formulas written otherwise, likewise.
+    formulas: BTreeMap<(&'static str, u16), usize>,
     calls: usize,
     disagreements: usize,
 }
@@ -137,6 +141,38 @@ impl Fuzz {
             Ok(Some(number)) => *self.waits.entry((call, number)).or_default() += 1,
             Ok(None) => self.one_over += 1,
             Err(text) => self.disagree("Fulfilling", &text),
+        }
+    }
+
+    /// A sheet and the same with its formulas written otherwise: each beside the reference, and both beside each other.
+    fn formulas(&mut self) {
+        let ands = self.random.chance(40);
+        let [plain, other] = if ands {
+            let plain = formulas_under_and(&mut self.random);
+            let other = rewritten(&mut self.random, &plain);
+            [plain, other]
+        } else {
+            any_pair(&mut self.random)
+        };
+        let (plain, other) = (lay_out(&mut self.random, &plain), lay_out(&mut self.random, &other));
+        let pair = formulas::Pair { plain: &plain, other: &other };
+        if ands || self.random.chance(20) {
+            let list = list_for(&mut self.random, &plain);
+            self.explain("list, of a pair of formulas", &plain, &list);
+            self.explain("list, of a pair, formulas written otherwise", &other, &list);
+            let outcome = pair.explained(&mut self.desk, &list);
+            self.formula("explain", outcome);
+        }
+        self.compile("sheet, of a pair of formulas", &plain);
+        self.compile("sheet, of a pair, formulas written otherwise", &other);
+        let outcome = pair.compiled(&mut self.desk);
+        self.formula("compile", outcome);
+    }
+
+    fn formula(&mut self, call: &'static str, outcome: Result<u16, String>) {
+        match outcome {
+            Ok(number) => *self.formulas.entry((call, number)).or_default() += 1,
+            Err(text) => self.disagree("formulas", &text),
         }
     }
 
@@ -280,11 +316,12 @@ fn main() {
         pairs: BTreeMap::new(),
         waits: BTreeMap::new(),
         one_over: 0,
+        formulas: BTreeMap::new(),
         calls: 0,
         disagreements: 0,
     };
     while fuzz.calls < calls && fuzz.disagreements < ENOUGH {
-        match fuzz.random.below(203) {
+        match fuzz.random.below(211) {
             0..=39 => fuzz.sheet(),
             40..=69 => fuzz.table(),
             70..=98 => fuzz.board(),
@@ -293,6 +330,7 @@ fn main() {
             159..=183 => fuzz.list(),
             184..=193 => fuzz.spare_nodes(),
             194..=201 => fuzz.waits(),
+            202..=209 => fuzz.formulas(),
             _ => fuzz.history(),
         }
     }
@@ -315,6 +353,14 @@ fn main() {
     );
     for name in ["compile", "explain"] {
         println!("{name:>9}  {}", by_number(&fuzz.waits, name));
+    }
+    let formulas: usize = fuzz.formulas.values().sum();
+    println!(
+        "{formulas} pairs of a sheet and the same with its formulas written otherwise that answer alike, by call and \
+         number"
+    );
+    for name in ["compile", "explain"] {
+        println!("{name:>9}  {}", by_number(&fuzz.formulas, name));
     }
     let farthest = fuzz.places.last().copied().unwrap_or(0);
     println!("{} nodes named, {} places up to {farthest}", fuzz.named.len(), fuzz.places.len());

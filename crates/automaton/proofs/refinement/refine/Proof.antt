@@ -1,43 +1,64 @@
 -- `refinement::refine` meets its contract. The loop's invariant: `count` classes, each of some state, and alike states have one class.
 -- The measure is what is left of the limit. Assumes nothing.
-use mathlib.Core.Path.{_≡_, refl, sym, ap, _∙_}
+use mathlib.Core.Path.{_≡_, refl, sym, ap, subst, _∙_}
 use mathlib.Core.List.{List}
 use Prim.Native.Nat.{ℕ, _*_, _≤_, _-_}
 use native.Mathlib.Omega.{arith}
 use borrow.Author.Needs.{needs}
-use lib.ListN.{length, replicate}
+use lib.ListN.{length}
 use Rattle.automaton.specs.Machine.{AlikeStates, Machine}
 use Rattle.automaton.specs.Partition.{Over, Partition}
+use Rattle.automaton.specs.declared.Refined.{Refined}
 use Rattle.automaton.specs.declared.Refined.the-variants.{Classes, TooMany}
-use Rattle.automaton.proofs.Refining.{Refining, one-refining, too-many, no-fewer-found, refines, stable}
+use Rattle.automaton.specs.Refining.{Refining, BeginsWith}
+use Rattle.automaton.proofs.Refining.{too-many, no-fewer-found, refines, stable}
 use Rattle.base.proofs.Lists.{stored-all}
 use Rattle.automaton.proofs.refinement.refine.Statement.{statement}
 use Rattle.automaton.proofs.refinement.refine.Tie as tie
 
 abbrev Inv-loop : tie.InvT-loop
-Inv-loop next actions limit classes₀ other₀ firsts₀ count₀ classes other firsts count =
+Inv-loop next actions limit classes₀ other₀ firsts₀ first count₀ classes other firsts count =
     (length other ≡ length other₀) × (length firsts ≡ length firsts₀) × Refining (length classes₀) actions limit count next classes
 
 abbrev μ-loop : tie.MeasureT-loop
-μ-loop next actions limit classes₀ other₀ firsts₀ count₀ classes other firsts count = limit - count
+μ-loop next actions limit classes₀ other₀ firsts₀ first count₀ classes other firsts count = limit - count
+
+-- the classes to begin with
+module _ (c : tie.After-begin Inv-loop μ-loop) where
+  abbrev before : tie.Start Inv-loop μ-loop
+  before = c .before .before .before .before .before .before .before .before
+
+  abbrev begun-classes : List ℕ
+  begun-classes = c .begin .last .1 .1 .1 .0
+
+  begun : {r : Refined} → c .begin .result ≡ r
+      → BeginsWith (length (before .args .classes .now)) (before .args .actions) (before .args .limit) (before .args .next .now) r begun-classes
+  begun e =
+      subst (λ (r : Refined). BeginsWith (length (before .args .classes .now)) (before .args .actions) (before .args .limit) (before .args .next .now) r begun-classes) e
+      (c .begin .ensures)
+
+returns : tie.Need-returns Inv-loop μ-loop
+returns c = begun (c .before .before .before .before .before .before .before .before) (c .enum-told .given .1)
 
 loop-holds : tie.Need-loop-holds Inv-loop μ-loop
 loop-holds c =
-    let z = c .before .before .before .before .before .before .before .before in
-    let one = c .before .before .clear in
-    let e : length (one .last .0) ≡ length (z .args .classes .now) = omega arith in (
+    let b = c .before .before .before .before .before .before .before .before .before in
+    let z = before b in
+    let e : length (z .args .classes .now) ≡ length (begun-classes b) = omega arith in (
       refl,
       refl,
-      one-refining (length (one .last .0)) (z .args .actions) (z .args .limit) (z .args .next .now) (one .last .0) (omega arith) (omega arith)
-          (one .ensures ∙ ap (λ (n : ℕ). replicate n 0) (sym e)),
+      subst (λ (n : ℕ). Refining n (z .args .actions) (z .args .limit) (c .before .begun .given .0 .0) (z .args .next .now) (begun-classes b)) e (begun b (c .before .begun .given .1)),
     )
 
 module _ (c : tie.At-loop Inv-loop μ-loop) where
+  abbrev at-begin : tie.After-begin Inv-loop μ-loop
+  at-begin = c .before .before .before .before .before .before .before .before .before .before
+
   abbrev start : tie.Start Inv-loop μ-loop
-  start = c .before .before .before .before .before .before .before .before .before
+  start = before at-begin
 
   abbrev states : ℕ
-  states = length (c .before .before .before .clear .last .0)
+  states = length (begun-classes at-begin)
 
   all-states : states ≡ length (start .args .classes .now)
   all-states = omega arith
@@ -96,14 +117,11 @@ module _ (c : tie.After-pass Inv-loop μ-loop) where
         rw (← all-states turn)
         (stable _ _ _ _ _ _ (still-refining turn) (c .pass .result) split firsts-found (c .pass .ensures) finer e (omega arith) h)
 
-enum-told : tie.Need-enum-told Inv-loop μ-loop
-enum-told c = search needs
-
-returns : tie.Need-returns Inv-loop μ-loop
-returns c = found-too-many (c .before .before .before .before .before .before) (c .enum-told .given .1)
+returns-2 : tie.Need-returns-2 Inv-loop μ-loop
+returns-2 c = found-too-many (c .before .before .before .before .before .before) (c .enum-told2 .given .1)
 
 -- the finer classes, copied
-module _ (c : tie.After-slice-known7 Inv-loop μ-loop) where
+module _ (c : tie.After-slice-known9 Inv-loop μ-loop) where
   abbrev passed : tie.After-pass Inv-loop μ-loop
   passed = c .before .before .before .before .before .before .before .before .before .before .before .before
 
@@ -118,8 +136,8 @@ module _ (c : tie.After-slice-known7 Inv-loop μ-loop) where
       c .before .before .copy .ensures
       ∙ stored-all (split passed) (turn passed .loop .classes) (length (split passed)) (omega (arith, passed .pass .kept, turn passed .loop .inv))
 
-returns-2 : tie.Need-returns-2 Inv-loop μ-loop
-returns-2 c = rw (copied (c .before)) (found-stable (passed (c .before)) (finer-count (c .before)) (is-finer (c .before)) (omega arith))
+returns-3 : tie.Need-returns-3 Inv-loop μ-loop
+returns-3 c = rw (copied (c .before)) (found-stable (passed (c .before)) (finer-count (c .before)) (is-finer (c .before)) (omega arith))
 
 loop-less : tie.Need-loop-less Inv-loop μ-loop
 loop-less c =
@@ -139,18 +157,24 @@ refine-spec =
     Inv-loop
     μ-loop
     (λ c κs. search needs)
-    loop-holds
-    pass-requires
     (λ c. search needs)
-    enum-told
+    (λ c. search needs)
     (λ c. omega arith)
     (λ c. omega arith)
     (λ c. omega arith)
     returns
-    (λ c κs. omega arith)
+    loop-holds
+    pass-requires
+    (λ c. search needs)
+    (λ c. search needs)
     (λ c. omega arith)
     (λ c. omega arith)
     (λ c. omega arith)
     returns-2
+    (λ c κs. omega arith)
+    (λ c. omega arith)
+    (λ c. omega arith)
+    (λ c. omega arith)
+    returns-3
     loop-less
     loop-again)

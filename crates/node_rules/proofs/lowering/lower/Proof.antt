@@ -6,12 +6,6 @@ use Rattle.rules.specs.declared.Lowered.the-variants.{AsRule}
 use Rattle.node_rules.proofs.lowering.lower.Statement.{statement}
 use Rattle.node_rules.proofs.lowering.lower.Tie as tie
 
-returns-11 : tie.Need-returns-11
-returns-11 c = rw (c .before .before .before .node5 .given .1) (ap AsRule (rw (c .before .type-at .ensures) at (c .by-mode .ensures)))
-
-returns-12 : tie.Need-returns-12
-returns-12 c = rw (c .before .before .before .node6 .given .1) (ap AsRule (rw (c .before .type-at2 .ensures) at (c .by-mode2 .ensures)))
-
 pub lower-spec : {M : Type 1} → statement M
 lower-spec =
     tie.close
@@ -26,16 +20,12 @@ lower-spec =
     (λ c κs. search needs)
     (λ c. search needs)
     (λ c κs. search needs)
-    (λ c. search needs)
-    (λ c. search needs)
+    (λ c κs. search needs)
     (λ c. search needs)
     (λ c. search needs)
     (λ c. search needs)
     (λ c κs. search needs)
-    (λ c κs. search needs)
     (λ c. search needs)
-    (λ c. search needs)
-    (λ c κs. search needs)
     (λ c κs. search needs)
     (λ c. search needs)
     (λ c. search needs)
@@ -53,11 +43,11 @@ lower-spec =
     (λ c. rw (c .enum-told5 .given .1))
     (λ c. rw (c .enum-told6 .given .1))
     (λ c. rw (c .before .before .node .given .1, c .set-at .ensures))
-    (λ c. rw (c .before .before .node2 .given .1, c .set-at2 .ensures))
+    (λ c. rw (c .before .before .before .node2 .given .1, c .others .ensures, c .before .set-at2 .ensures))
     (λ c. rw (c .before .node3 .given .1))
     (λ c. rw (c .before .node4 .given .1))
-    returns-11
-    returns-12
+    (λ c. rw (c .before .before .node5 .given .1) (ap AsRule (c .by-mode .ensures)))
+    (λ c. rw (c .before .before .node6 .given .1) (ap AsRule (c .by-mode2 .ensures)))
     (λ c. rw (c .before .node7 .given .1))
     (λ c. rw (c .before .node8 .given .1))
     (λ c. rw (c .before .node9 .given .1))

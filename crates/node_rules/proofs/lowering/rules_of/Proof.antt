@@ -16,26 +16,33 @@ use Rattle.syntax.specs.declared.TypedNode.{TypedNode}
 use Rattle.rules.specs.declared.Lowered.{Lowered}
 use Rattle.rules.specs.declared.Lowered.the-variants.{NoRule}
 use Rattle.rules.specs.declared.RuleAt.{RuleAt}
-use Rattle.node_rules.specs.Lowering.{setAt, lowered, ofPolicy, firstRules}
+use Rattle.node_rules.specs.ActionSets.{setAt}
+use Rattle.node_rules.specs.Lowering.{lowered, ofPolicy, rulesOf}
 use Rattle.node_rules.proofs.lowering.rules_of.Statement.{statement}
 use Rattle.node_rules.proofs.lowering.rules_of.Tie as tie
 
 abbrev Inv-loop : tie.InvT-loop
-Inv-loop types count nodes sets rules₀ n₀ rules n = (n ≤ count) × (rules ≡ firstRules nodes types sets n)
+Inv-loop sets actions count nodes types rules₀ n₀ rules n = (n ≤ count) × (rules ≡ rulesOf nodes types sets actions n)
 
 abbrev μ-loop : tie.MeasureT-loop
-μ-loop types count nodes sets rules₀ n₀ rules n = count - n
+μ-loop sets actions count nodes types rules₀ n₀ rules n = count - n
 
 -- the type of node n is looked at
 module _ (c : tie.After-typed Inv-loop μ-loop) where
+  abbrev start : tie.Start Inv-loop μ-loop
+  start = c .before .before .before
+
   abbrev nodes : List ListedNode
-  nodes = c .before .before .before .before .before .args .sheet .nodes
+  nodes = start .args .t1
 
   abbrev types : List TypedNode
-  types = c .before .before .before .before .before .args .t2
+  types = start .args .t2
 
   abbrev sets : List ℕ
-  sets = c .before .before .before .formula-sets .result
+  sets = start .args .sets .now
+
+  abbrev actions : ℕ
+  actions = start .args .actions
 
   abbrev n : ℕ
   n = c .before .before .loop .n
@@ -43,18 +50,18 @@ module _ (c : tie.After-typed Inv-loop μ-loop) where
   abbrev rules : List RuleAt
   rules = c .before .before .loop .rules
 
-  so-far : rules ≡ firstRules nodes types sets n
+  so-far : rules ≡ rulesOf nodes types sets actions n
   so-far = c .before .before .loop .inv .1
 
   -- the node's own rule, by its type
   abbrev own : NodeType → RuleAt
-  own t = record { of = ofPolicy t (lowered (typeAt types) (setAt sets) (nodeAt nodes n)) }
+  own t = record { of = ofPolicy t (λ m. lowered m actions (setAt sets) (nodeAt nodes n)) }
 
   -- it has none
-  skipped : {t : NodeType} → typeAt types n ≡ t → own t ≡ record { of = NoRule } → rules ≡ firstRules nodes types sets (suc n)
+  skipped : {t : NodeType} → typeAt types n ≡ t → own t ≡ record { of = NoRule } → rules ≡ rulesOf nodes types sets actions (suc n)
   skipped e z =
       so-far
-      ∙ sym (filled-skip 64 (record { of = NoRule }) (λ i l. record { of = ofPolicy (typeAt types i) (lowered (typeAt types) (setAt sets) (nodeAt nodes i)) }) n (ap own e ∙ z))
+      ∙ sym (filled-skip 64 (record { of = NoRule }) (λ i l. record { of = ofPolicy (typeAt types i) (λ m. lowered m actions (setAt sets) (nodeAt nodes i)) }) n (ap own e ∙ z))
 
 loop-again : tie.Need-loop-again Inv-loop μ-loop
 loop-again c =
@@ -68,18 +75,18 @@ loop-again-2 c =
 
 loop-again-3 : tie.Need-loop-again-3 Inv-loop μ-loop
 loop-again-3 c =
-    let a = c .before .before .before .before in (
+    let k = c .before .before in
+    let a = k .before .before .before in (
       search needs,
       rw (add-one (n a), ← so-far a)
           (ap (λ (x : Lowered). set (rules a) (n a) (record { of = x }))
-          (c .lower .ensures ∙ ap (λ (t : NodeType). ofPolicy t (lowered (typeAt (types a)) (setAt (sets a)) (nodeAt (nodes a) (n a)))) (sym (c .before .before .enum-told3 .given .1)))),
+          (c .lower .ensures ∙ ap (λ (t : NodeType). own a t .of) (sym (k .before .of .given .1)))),
     )
 
 returns : tie.Need-returns Inv-loop μ-loop
 returns c =
-    let start = c .before .before .before .before in
-    let e : c .before .loop .n ≡ start .args .sheet .count = omega arith in
-    c .before .loop .inv .1 ∙ rw (e, c .before .before .formula-sets .ensures)
+    let e : c .before .loop .n ≡ c .before .before .args .count = omega arith in
+    c .before .loop .inv .1 ∙ rw e
 
 pub rules-of-spec : {M : Type 1} → statement M
 rules-of-spec =
@@ -87,7 +94,6 @@ rules-of-spec =
     (tie.spec
     Inv-loop
     μ-loop
-    (λ c κs. search needs)
     (λ c. (search needs, refl))
     (λ c. search needs)
     (λ c. search needs)

@@ -11,26 +11,26 @@ proposition-set-requires : tie.Need-proposition-set-requires
 proposition-set-requires c κs =
     let start = c .before .before .before in
     let fits = subst ArgumentFits (c .before .node .given .1) (start .pre .1) in
-    (start .pre .0, omega (arith, fits))
+    (start .pre .0 .0, omega (arith, fits))
 
 pub formula-set-spec : {M : Type 1} → statement M
 formula-set-spec =
     tie.close
     (tie.spec
     (λ c. search needs)
+    (λ c κs. search needs)
     (λ c. search needs)
     (λ c. search needs)
     proposition-set-requires
     (λ c. search needs)
     (λ c κs. search needs)
-    (λ c. search needs)
-    (λ c. search needs)
-    (λ c κs. search needs)
     (λ c κs. search needs)
     (λ c. search needs)
     (λ c κs. search needs)
     (λ c κs. search needs)
     (λ c. search needs)
+    (λ c κs. search needs)
+    (λ c κs. search needs)
     (λ c. search needs)
     (λ c. search needs)
     (λ c. search needs)
@@ -44,10 +44,11 @@ formula-set-spec =
     (λ c. search needs)
     (λ c. search needs)
     (λ c. search needs)
-    (λ c. rw (c .enum-told .given .1))
+    (λ c. search needs)
+    (λ c. rw (c .before .enum-told .given .1) (c .every-action .ensures))
     (λ c. rw (c .enum-told2 .given .1))
     (λ c. rw (c .before .before .node .given .1) (c .proposition-set .ensures))
-    (λ c. rw (c .before .before .node2 .given .1, c .set-at .ensures))
+    (λ c. rw (c .before .before .before .node2 .given .1) (rw (c .before .set-at .ensures) at (c .others .ensures)))
     (λ c. rw (c .before .before .before .node3 .given .1, c .before .set-at2 .ensures, c .set-at3 .ensures))
     (λ c. rw (c .before .before .before .node4 .given .1, c .before .set-at4 .ensures, c .set-at5 .ensures))
     (λ c. rw (c .enum-told3 .given .1))
