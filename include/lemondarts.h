@@ -36,7 +36,7 @@
 #define LEMONDARTS_VERSION_MAJOR 4
 #define LEMONDARTS_VERSION_MINOR 6
 #define LEMONDARTS_VERSION_PATCH 1
-#define LEMONDARTS_VERSION "4.6.1"
+#define LEMONDARTS_VERSION "4.6.2"
 
 /* Lengths. An area may be longer; what stands behind these lengths is not touched. */
 #define LEMONDARTS_RECORD 16     /* a board's record, in bytes */

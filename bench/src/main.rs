@@ -3,7 +3,8 @@
 //! hand in C, plain and with SSE2; of reading a text also to compiling its sheet; of minimisation and of
 //! joining to OpenFst; of explaining to compiling the sheet; of a sheet with spare nodes to the same without; of sheets
 //! of many formulas to one of a single formula.
-//! Arguments: the programs built from minimise.cc and intersect.cc, if there are any.
+//! Arguments: the programs built from minimise.cc and intersect.cc, if there are any; or the word `actions`, for the
+//! rows of actions alone.
 
 mod by_hand;
 mod denials;
@@ -215,6 +216,64 @@ fn tables_of(sheets: &[Vec<u8>], actions: u8) -> Vec<Vec<u8>> {
     tables.into_iter().cycle().take(count).collect()
 }
 
+/// The sheets of the small roastery, of which the tables over four actions are put on boards.
+fn small_sheets() -> Vec<Vec<u8>> {
+    small_roastery().into_iter().map(|case| case.sheet).collect()
+}
+
+/// Sheets of 64 nodes over 16 actions whose tables have 8 rows or more.
+fn seeded_sheets() -> Vec<Sheet> {
+    let mut random = Random(2026);
+    let style = Style { actions: 16, nodes: 64, inside_limits: true, slips: 0 };
+    let rows = |sheet: &Sheet| reference::compile(&sheet.bytes()).map_or(0, |table| table[4]);
+    let drawn = std::iter::repeat_with(|| sheet(&mut random, style));
+    drawn.filter(|sheet| rows(sheet) >= 8).take(20).collect()
+}
+
+/// Each action with a proposition of its own.
+fn sixteen_actions() -> Vec<u16> {
+    (0..16).map(|action| 1 << action).collect()
+}
+
+/// Sheets of the largest tables: 64 rows, 16 actions.
+fn full_sheets() -> Vec<Vec<u8>> {
+    let full = after_watched(count(60), count(4));
+    vec![full.sheet(&sixteen_actions()).bytes(), not(full).sheet(&sixteen_actions()).bytes()]
+}
+
+/// Actions on boards of more and more bytes.
+fn growing_actions() {
+    for rows in [1, 4, 16, 60] {
+        let table = reference::compile(&count(rows).sheet(&sixteen_actions()).bytes()).expect("a table");
+        action(&format!("{} bytes", table.len()), std::slice::from_ref(&table));
+    }
+    let largest = tables_of(&full_sheets(), 16);
+    for on in [1, 2, 4, 6, 8] {
+        action(&format!("{} bytes", on * largest[0].len()), &largest[..on]);
+    }
+}
+
+fn action_again_and_again(tables: &[Vec<u8>]) {
+    action_on("the small roastery's tables, 1 on, one record again and again", &tables[..1], 1);
+}
+
+const SMALL: &str = "the small roastery's tables";
+const SEEDED: &str = "their tables, of 8 to 64 rows";
+const FULL: &str = "tables of 64 rows, 16 actions";
+
+/// The rows of actions alone.
+fn actions() {
+    let small = tables_of(&small_sheets(), 4);
+    let seeded = seeded_sheets();
+    let seeded: Vec<Vec<u8>> = seeded.iter().map(Sheet::bytes).collect();
+    for (on, tables) in [(SMALL, &small), (SEEDED, &tables_of(&seeded, 16)), (FULL, &tables_of(&full_sheets(), 16))] {
+        action(on, &tables[..1]);
+        action(on, &tables[..PLACES]);
+    }
+    action_again_and_again(&small);
+    growing_actions();
+}
+
 fn main() {
     println!("Times in microseconds a call: medians of {REPETITIONS} repetitions that go round the columns, each of");
     println!(
@@ -230,45 +289,43 @@ fn main() {
     println!("checks and answers; with SSE2 is the same with intrinsics for the check of a table. Before they are");
     println!("timed their answers and records are held to the library's, on these actions and on damaged boards.");
     println!("Actions go round {RECORDS} records on one area, in every column: a unit's actions come seconds apart.");
-    println!("The row of one record again and again has calls back to back: the library writes the record byte by");
-    println!("byte and reads it by one load of 16 bytes, which waits for those stores; and a call that needs what");
-    println!("the one before wrote does not overlap with it in the processor.\n");
+    println!("The row of one record again and again has calls back to back: a call that needs what the one before");
+    println!("wrote does not overlap with it in the processor.\n");
     println!(
         "{:9} {:52} {:>10} {:>10} {:>7} {:>10} {:>7} {:>10} {:>7} {:>10} {:>7}",
         "call", "on", "library", "reference", "ratio", "scan/clear", "ratio", "by hand", "ratio", "with SSE2", "ratio"
     );
+
+    if std::env::args().nth(1).is_some_and(|word| word == "actions") {
+        return actions();
+    }
 
     let cases = small_roastery();
     for name in ["Whenever charge: Before+ drop", "Always Holds not charge", "After- Count 60 Count 4"] {
         let case = cases.iter().find(|case| case.name == name).expect("a case of the small roastery");
         compile(&format!("{name} ({} bytes)", case.sheet.len()), std::slice::from_ref(&case.sheet));
     }
-    let small_roastery: Vec<Vec<u8>> = cases.into_iter().map(|case| case.sheet).collect();
-    compile(&format!("the small roastery's sheets ({})", small_roastery.len()), &small_roastery);
-    let tables = tables_of(&small_roastery, 4);
-    board_calls("the small roastery's tables", &tables);
-    action_on("the small roastery's tables, 1 on, one record again and again", &tables[..1], 1);
+    let small_sheets = small_sheets();
+    compile(&format!("the small roastery's sheets ({})", small_sheets.len()), &small_sheets);
+    let tables = tables_of(&small_sheets, 4);
+    board_calls(SMALL, &tables);
+    action_again_and_again(&tables);
 
-    let mut random = Random(2026);
-    let style = Style { actions: 16, nodes: 64, inside_limits: true, slips: 0 };
-    let rows = |sheet: &Sheet| reference::compile(&sheet.bytes()).map_or(0, |table| table[4]);
-    let drawn = std::iter::repeat_with(|| sheet(&mut random, style));
-    let seeded: Vec<Sheet> = drawn.filter(|sheet| rows(sheet) >= 8).take(20).collect();
+    let seeded = seeded_sheets();
     let seeded_bytes: Vec<Vec<u8>> = seeded.iter().map(Sheet::bytes).collect();
     compile("20 seeded sheets, 64 nodes, 16 actions", &seeded_bytes);
-    board_calls("their tables, of 8 to 64 rows", &tables_of(&seeded_bytes, 16));
+    board_calls(SEEDED, &tables_of(&seeded_bytes, 16));
 
     // Sheets at the limits.
-    let sixteen: Vec<u16> = (0..16).map(|action| 1 << action).collect();
+    let sixteen = sixteen_actions();
     let many_values = many_values().sheet(&TWO);
     let all_values = two_counts(32, 32).sheet(&TWO);
-    let full = after_watched(count(60), count(4));
     compile("1,022 values, 25 rows", &[many_values.bytes()]);
     compile("1,024 values, refused 9", &[all_values.bytes()]);
     compile("over 1,024 values, refused 8", &[two_counts(33, 32).sheet(&TWO).bytes()]);
-    let full_sheets = [full.sheet(&sixteen).bytes(), not(full).sheet(&sixteen).bytes()];
+    let full_sheets = full_sheets();
     compile("64 rows, 16 actions", &full_sheets);
-    board_calls("tables of 64 rows, 16 actions", &tables_of(&full_sheets, 16));
+    board_calls(FULL, &tables_of(&full_sheets, 16));
 
     println!("\nWhat grows: values, rows, bytes on a board. tools/plot draws these.\n");
     let values = |sheet: &Sheet| {
@@ -287,14 +344,7 @@ fn main() {
         grows("chain", count(k), &sixteen);
     }
     grows("chain", after_watched(count(60), count(4)), &sixteen);
-    for rows in [1, 4, 16, 60] {
-        let table = reference::compile(&count(rows).sheet(&sixteen).bytes()).expect("a table");
-        action(&format!("{} bytes", table.len()), std::slice::from_ref(&table));
-    }
-    let largest = tables_of(&full_sheets, 16);
-    for on in [1, 2, 4, 6, 8] {
-        action(&format!("{} bytes", on * largest[0].len()), &largest[..on]);
-    }
+    growing_actions();
 
     texts::all();
 

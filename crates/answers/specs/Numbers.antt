@@ -1,12 +1,12 @@
 -- Answers as one number of 64 bits: the number of the answer, a value, a count of actions and a count of rows, 16 bits each, lowest first.
 -- Assumes nothing.
 use mathlib.Core.Path.{_≡_}
-use mathlib.Core.Bool.{Bool, true, false}
+use mathlib.Core.Bool.{Bool}
 use mathlib.Core.List.{[], _∷_}
 use Prim.Native.Nat.{ℕ}
 use Rattle.base.specs.Fields.{packFields}
 use Rattle.table.specs.Answer.{Answer, accepted, refused}
-use Rattle.board.specs.Calls.{Reply, done, permitted, denied, input, state}
+use Rattle.view.specs.Steps.{Reply, done, permitted, denied, input, state, changes}
 
 -- Every field of what the calls answer is below `fieldSize` of crate base (crate lemondarts, proofs/Answers.antt, Spots.antt), so nothing is cut off.
 abbrev pub pack : (number value actions rows : ℕ) → ℕ
@@ -24,14 +24,6 @@ packedReply (state number) = pack number 0 0 0
 abbrev pub packedAnswer : Answer → ℕ
 packedAnswer (accepted type actions rows) = pack 0 type actions rows
 packedAnswer (refused number spot) = pack number spot 0 0
-
--- Whether an answer changes the board: a refusal and a denial do not.
-abbrev pub changes : Reply → Bool
-changes done = true
-changes (permitted fulfilled) = true
-changes (denied place) = false
-changes (input number spot) = false
-changes (state number) = false
 
 -- An answer's number, and whether it changes the board.
 pub record AnswerIs (reply : Reply) (number : ℕ) (changed : Bool) : Type 0 where

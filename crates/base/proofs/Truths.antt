@@ -31,3 +31,10 @@ or-false false b e = (refl, e)
 
 pub neither-true : {a b : Bool} → a ≡ false → b ≡ false → a || b ≡ false
 neither-true p q = rw (p, q)
+
+-- two truths that hold together are equal
+pub same-truth : (a b : Bool) → (a ≡ true → b ≡ true) → (b ≡ true → a ≡ true) → a ≡ b
+same-truth true true f g = refl
+same-truth true false f g = not-true (f refl)
+same-truth false true f g = not-true (g refl)
+same-truth false false f g = refl

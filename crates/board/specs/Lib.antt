@@ -1,9 +1,3 @@
-pub mod Layout
-pub mod Places
-pub mod View
-pub mod Possible
-pub mod Calls
 pub mod Replies
-pub mod Survey
+pub mod Asking
 pub mod Targets
-pub mod Steps

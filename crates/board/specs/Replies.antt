@@ -1,6 +1,6 @@
 -- The answers of the board's four calls in the numbers and values of docs/FORMATS.md, "Refusals", one line a case.
 -- Assumes nothing.
-use Rattle.board.specs.Calls.{Reply, done, permitted, denied, input, state}
+use Rattle.view.specs.Steps.{Reply, done, permitted, denied, input, state}
 use Rattle.board.specs.declared.Made.{Made}
 use Rattle.board.specs.declared.Made.the-variants as made
 use Rattle.board.specs.declared.Put.{Put}

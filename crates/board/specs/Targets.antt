@@ -4,30 +4,30 @@ use mathlib.Core.Path.{_≡_}
 use mathlib.Core.Bool.{true, false}
 use mathlib.Core.List.{List}
 use Prim.Native.Nat.{ℕ, _≤_}
-use Rattle.board.specs.Layout.{placeCount, Whole, Within}
-use Rattle.board.specs.Places.{caseAt, taken}
-use Rattle.board.specs.View.{viewOf}
-use Rattle.board.specs.Possible.{Possible}
-use Rattle.board.specs.Survey.{Surveys}
-use Rattle.board.specs.declared.Board.{Board}
-use Rattle.board.specs.declared.survey.Found.{Found}
+use Rattle.places.specs.Layout.{placeCount, Whole, Within}
+use Rattle.places.specs.Places.{caseAt, taken}
+use Rattle.places.specs.declared.Board.{Board}
+use Rattle.view.specs.View.{viewOf}
+use Rattle.view.specs.Calls.{CanBe}
+use Rattle.scan.specs.Survey.{Surveys}
+use Rattle.scan.specs.declared.survey.Found.{Found}
 use Rattle.board.specs.declared.calls.Target.{Target}
 use Rattle.board.specs.declared.calls.Target.the-variants.{ShortArea, NoPlace, Impossible, Taken, Empty}
 
 pub record TakenTarget (board : Board) (area : List ℕ) (place : ℕ) : Type 0 where
   pub within : Within area place
-  pub possible : Possible placeCount (viewOf board area)
+  pub can : CanBe placeCount board area
   pub on : taken (caseAt board place) ≡ true
 
 pub record EmptyTarget (board : Board) (area : List ℕ) (place : ℕ) (found : Found) : Type 0 where
   pub within : Within area place
-  pub possible : Possible placeCount (viewOf board area)
+  pub can : CanBe placeCount board area
   pub free : taken (caseAt board place) ≡ false
   pub surveyed : Surveys placeCount (viewOf board area) found
 
 abbrev pub Looks : Board → List ℕ → ℕ → Target → Type 0
 Looks board area place ShortArea = Whole area → ⊥
 Looks board area place NoPlace = Whole area × (placeCount ≤ place)
-Looks board area place Impossible = Within area place × (Possible placeCount (viewOf board area) → ⊥)
+Looks board area place Impossible = Within area place × (CanBe placeCount board area → ⊥)
 Looks board area place Taken = TakenTarget board area place
 Looks board area place (Empty found) = EmptyTarget board area place found

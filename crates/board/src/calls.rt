@@ -1,28 +1,30 @@
 // A new board, putting a table on it, and taking one off.
-use crate::AREA_LENGTH;
-use crate::Board;
-use crate::Case;
 use crate::Made;
 use crate::NewBoard;
-use crate::PLACES;
 use crate::Put;
 use crate::PutOn;
 use crate::Take;
 use crate::TakenOff;
-use crate::places::case_at;
-use crate::places::empty_board;
-use crate::places::taken;
-use crate::places::with_case;
-use crate::places::write_place;
-use crate::scan::scan;
-use crate::survey::Found;
-use crate::survey::admits;
-use crate::survey::impossible;
+use places::AREA_LENGTH;
+use places::Board;
+use places::Case;
+use places::PLACES;
+use places::case_at;
+use places::empty_board;
+use places::taken;
+use places::with_case;
+use places::write_place;
+use scan::Found;
+use scan::admits;
+use scan::impossible;
+use scan::scan;
 use table::Loaded;
 use trace::Mode;
 ghost use mathlib.Core.Path.{_≡_};
 ghost use Rattle.table.specs.Answer.{modeNumber};
-ghost use Rattle.board.specs.Calls.{Makes, PutsOn, TakesOff, firstCase};
+ghost use Rattle.view.specs.Moves.{firstCase};
+ghost use Rattle.view.specs.Steps.{put-on, take-off};
+ghost use Rattle.view.specs.Calls.{Calls, Makes};
 ghost use Rattle.board.specs.Replies.{madeReply, putReply, takeReply};
 ghost use Rattle.board.specs.Targets.{EmptyTarget, Looks};
 
@@ -89,7 +91,7 @@ fn first_case(mode: Mode) -> Case
 // Loads a table and puts it on an empty place, at row 0.
 fn put_table(board: Board, area: &mut [u8], place: usize, table: &[u8], found: Found) -> PutOn
     requires { ⌜ EmptyTarget board (now area) place found ⌝ }
-    ensures { λ r. ⌜ PutsOn board (now (area .entry)) place (now (table .entry)) (putReply (r .answer)) (r .board) (now (area .exit)) ⌝ }
+    ensures { λ r. ⌜ Calls board (now (area .entry)) (put-on place (now (table .entry))) (putReply (r .answer)) (r .board) (now (area .exit)) ⌝ }
 {
     match table::load(table) {
         Loaded::Malformed => PutOn {
@@ -124,7 +126,7 @@ fn put_table(board: Board, area: &mut [u8], place: usize, table: &[u8], found: F
 
 // Puts a table on.
 pub fn put_on(board: Board, area: &mut [u8], place: usize, table: &[u8]) -> PutOn
-    ensures { λ r. ⌜ PutsOn board (now (area .entry)) place (now (table .entry)) (putReply (r .answer)) (r .board) (now (area .exit)) ⌝ }
+    ensures { λ r. ⌜ Calls board (now (area .entry)) (put-on place (now (table .entry))) (putReply (r .answer)) (r .board) (now (area .exit)) ⌝ }
 {
     match look_at(board, area, place) {
         Target::ShortArea => PutOn {
@@ -149,7 +151,7 @@ pub fn put_on(board: Board, area: &mut [u8], place: usize, table: &[u8]) -> PutO
 
 // Takes a table off: empties its place.
 pub fn take_off(board: Board, area: &mut [u8], place: usize) -> TakenOff
-    ensures { λ r. ⌜ TakesOff board (now (area .entry)) place (takeReply (r .answer)) (r .board) (now (area .exit)) ⌝ }
+    ensures { λ r. ⌜ Calls board (now (area .entry)) (take-off place) (takeReply (r .answer)) (r .board) (now (area .exit)) ⌝ }
 {
     match look_at(board, area, place) {
         Target::ShortArea => TakenOff {

@@ -8,10 +8,10 @@ use Prim.Native.Nat.{ℕ, suc, _-_, _≤_, _<_}
 use native.Mathlib.Decide.{decLt}
 use native.Mathlib.Omega.{arith}
 use lib.ListN.{length, take}
+use Rattle.base.specs.Sets.{bit}
 use Rattle.trace.specs.Trace.{Sequence, Step, trips}
 use Rattle.trace.specs.declared.Mode.the-variants.{Enforced}
 use Rattle.policy.specs.declared.Bound.{Bound}
-use Rattle.policy.specs.Formula.{bit}
 use Rattle.policy.proofs.Rules.{enforced-satisfied}
 use Rattle.policy.proofs.Congruent.{sequence-take}
 use Rattle.syntax.specs.Nodes.{propositionsOf}

@@ -9,15 +9,17 @@ use lib.ListN.{length, length-reverse}
 use lib.Seq.{take-nil}
 use Rattle.trace.specs.Trace.{Sequence}
 use Rattle.table.specs.Table.{verdict}
-use Rattle.board.specs.View.{View, Change}
-use Rattle.board.specs.Calls.{Reply, permitted, denied, Acting}
+use Rattle.view.specs.View.{View, Change}
+use Rattle.view.specs.Steps.{Reply, permitted, denied, act}
+use Rattle.runs.specs.Runs.{StepOn, Run}
+use Rattle.runs.specs.Events.{Event, event, rule, onPlace}
+use Rattle.runs.specs.Verdicts.{Listed, Judges, permits, denies-lowest}
 use Rattle.syntax.specs.declared.Sheet.{Sheet}
 use Rattle.compiler_laws.proofs.CompiledTable.{TableOf}
-use Rattle.histories.specs.History.{Event, act, Run, rule, onPlace, Listed, Judges, permits, denies-lowest}
-use Rattle.histories.proofs.RunReports.{before-act}
-use Rattle.histories.proofs.Run.{run-judges}
-use Rattle.joining_laws.specs.Boards.{Holds, ActsOnly, none, more}
-use Rattle.joining_laws.proofs.Boards.{holds-after}
+use Rattle.runs.proofs.Reports.{before}
+use Rattle.runs.proofs.Runs.{run-judges}
+use Rattle.runs.specs.Holding.{Holds, ActsOnly, none, more}
+use Rattle.runs.proofs.Holding.{holds-after}
 use Rattle.explaining.specs.Denials.{policyNode, satisfiesNode, NoneDenied, FirstDenied}
 use Rattle.explaining_laws.specs.Boards.{AllPermitted, DeniedAfter}
 use Rattle.explaining_laws.specs.Boards.{none as none-asked, more as one-more}
@@ -64,15 +66,15 @@ module _ {sheet : Sheet} {table : List ℕ} {actions rows : ℕ} (t : TableOf sh
   module _ {later events : List Event} {w : List ℕ} {action : ℕ} where
     -- one more action where all were permitted
     permitted-more : AllPermitted later → length later ≡ length w → Holds (later ++ events) (table ∷ []) w → NoneDenied sheet w → {reply : Reply}
-        → Verdict (later ++ events) w action reply → Answered sheet table (act action reply ∷ later) events (w ++ (action ∷ []))
+        → Verdict (later ++ events) w action reply → Answered sheet table (event (act action) reply ∷ later) events (w ++ (action ∷ []))
     permitted-more p l holds ok (lets set e) = all-permitted (one-more action set p) (holds-after holds action true) (none-denied-more sheet w action ok e)
     permitted-more p l holds ok (stops place on e) =
         one-denied (length w) (first-denied-here sheet w action ok e)
-        (record { before = later; permitted-each = p; counted = l; action = action; place = place; since = w; holds = on; behind = []; all = refl })
+        (record { before = later; permitted-each = p; counted = l; action = action; place = place; since = w; holds = on; afterwards = []; all = refl })
 
     -- one more where one was denied
     denied-more : (reply : Reply) {place : ℕ} → FirstDenied sheet w place → DeniedAfter table later events place
-        → Answered sheet table (act action reply ∷ later) events (w ++ (action ∷ []))
+        → Answered sheet table (event (act action) reply ∷ later) events (w ++ (action ∷ []))
     denied-more reply {place} f d =
         one-denied place (first-denied-more sheet w (action ∷ []) f)
         (record {
@@ -83,24 +85,24 @@ module _ {sheet : Sheet} {table : List ℕ} {actions rows : ℕ} (t : TableOf sh
           place = d .place;
           since = d .since;
           holds = d .holds;
-          behind = act action reply ∷ d .behind;
-          all = ap (λ (l : List Event). act action reply ∷ l) (d .all);
+          afterwards = event (act action) reply ∷ d .afterwards;
+          all = ap (λ (l : List Event). event (act action) reply ∷ l) (d .all);
         })
 
-    answered-more : length later ≡ length w → Sequence (sheet .actions) (w ++ (action ∷ [])) → {places : ℕ} {view : View} → Run places (later ++ events) view
-        → {reply : Reply} {change : Change} → Acting places view action reply change → Answered sheet table later events w
-        → Answered sheet table (act action reply ∷ later) events (w ++ (action ∷ []))
+    answered-more : length later ≡ length w → Sequence (sheet .actions) (w ++ (action ∷ [])) → {view : View} → Run (later ++ events) view
+        → {places : ℕ} {reply : Reply} {change : Change} → StepOn places view (act action) reply change → Answered sheet table later events w
+        → Answered sheet table (event (act action) reply ∷ later) events (w ++ (action ∷ []))
     answered-more l s r p (all-permitted m holds ok) = permitted-more m l holds ok (judged holds s (run-judges r (listed holds s) p))
-    answered-more l s r {reply} p (one-denied place f d) = denied-more reply f d
+    answered-more l s r {reply = reply} p (one-denied place f d) = denied-more reply f d
 
   -- A board that holds the table alone, with no action permitted since, given actions one by one.
   pub run-answered : satisfiesNode sheet (policyNode sheet) [] ≡ true → {events : List Event} → Holds events (table ∷ []) [] → {later : List Event} {asked : List ℕ}
-      → ActsOnly later asked → {places : ℕ} {view : View} → Run places (later ++ events) view → Sequence (sheet .actions) (reverse asked)
+      → ActsOnly later asked → {view : View} → Run (later ++ events) view → Sequence (sheet .actions) (reverse asked)
       → Answered sheet table later events (reverse asked)
   run-answered begins holds none r s = all-permitted none-asked holds (λ k h. rw (take-nil k) begins)
-  run-answered begins {events} holds {asked = asked} (more {events = later} {actions = before} action reply acts) r s =
-      let (view, change, g, p) = before-act r in
-      let s' = subst (Sequence (sheet .actions)) (reverse-cons action before) s in
-      let ih = run-answered begins holds acts g (sequence-parts (sheet .actions) (reverse before) (action ∷ []) s' .0) in
-      subst (Answered sheet table (act action reply ∷ later) events) (sym (reverse-cons action before))
-      (answered-more (acts-length acts ∙ sym (length-reverse before)) s' g p ih)
+  run-answered begins {events} holds {asked = asked} (more {events = later} {actions = earlier} action reply acts) r s =
+      let (view, change, places, g, p) = before r in
+      let s' = subst (Sequence (sheet .actions)) (reverse-cons action earlier) s in
+      let ih = run-answered begins holds acts g (sequence-parts (sheet .actions) (reverse earlier) (action ∷ []) s' .0) in
+      subst (Answered sheet table (event (act action) reply ∷ later) events) (sym (reverse-cons action earlier))
+      (answered-more (acts-length acts ∙ sym (length-reverse earlier)) s' g p ih)

@@ -8,18 +8,19 @@ use Prim.Native.Nat.{ℕ, _≤_}
 use Rattle.trace.specs.Trace.{Sequence}
 use Rattle.trace.specs.declared.Mode.the-variants.{Enforced}
 use Rattle.table.specs.Answer.{accepted}
-use Rattle.board.specs.declared.Board.{Board}
+use Rattle.places.specs.declared.Board.{Board}
 use Rattle.syntax.specs.declared.Sheet.{Sheet}
 use Rattle.compiler.specs.Compiles.{Compiles}
 use Rattle.compiler.proofs.Passed.{passed}
 use Rattle.compiler_laws.specs.Demands.{ReadAs}
 use Rattle.compiler_laws.proofs.Outcome.{compiles-determined}
 use Rattle.compiler_laws.proofs.CompiledTable.{TableOf, compiled-table}
-use Rattle.histories.specs.History.{Event, History}
+use Rattle.runs.specs.Events.{Event}
+use Rattle.histories.specs.History.{History}
 use Rattle.histories.proofs.HistoryRun.{history-run}
-use Rattle.histories.proofs.RunReports.{beginning}
-use Rattle.joining_laws.specs.Boards.{Holds, PutsOnly, ActsOnly}
-use Rattle.joining_laws.proofs.Putting.{run-puts-hold}
+use Rattle.runs.proofs.Reports.{beginning}
+use Rattle.runs.specs.Holding.{Holds, PutsOnly, ActsOnly}
+use Rattle.runs.proofs.Holding.{run-puts-hold}
 use Rattle.explaining.specs.Denials.{NoneDenied, FirstDenied}
 use Rattle.explaining.specs.Explains.{Explanation, no-denial, denied, Explains}
 use Rattle.explaining_laws.specs.Answers.{Explainable, Outcome, permits, denies}

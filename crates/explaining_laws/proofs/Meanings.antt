@@ -15,7 +15,7 @@ use Rattle.trace.proofs.Laws.{sequence-append}
 use Rattle.policy.proofs.Congruent.{sequence-take}
 use Rattle.syntax.specs.declared.Sheet.{Sheet}
 use Rattle.compiler_laws.specs.Demands.{SameSatisfied}
-use Rattle.histories.specs.Policies.{satisfiesSheet}
+use Rattle.board_policies.specs.Policies.{satisfiesSheet}
 use Rattle.explaining.specs.Denials.{NoneDenied, FirstDenied, LowestViolated}
 use Rattle.explaining.specs.Explains.{Explanation, denied, Explains, first-denied, finds}
 use Rattle.explaining_laws.specs.Answers.{Explainable, Outcome, permits, denies, writtenFor}

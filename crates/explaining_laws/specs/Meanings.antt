@@ -6,7 +6,7 @@ use mathlib.Core.List.{List}
 use Prim.Native.Nat.{ℕ}
 use Rattle.trace.specs.Trace.{Sequence}
 use Rattle.syntax.specs.declared.Sheet.{Sheet}
-use Rattle.histories.specs.Policies.{satisfiesSheet}
+use Rattle.board_policies.specs.Policies.{satisfiesSheet}
 
 -- The policy of the first sheet says what those of the other two say together, as their And does.
 pub record SaysBoth (sheet one other : Sheet) : Type 0 where

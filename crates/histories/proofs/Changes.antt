@@ -8,16 +8,18 @@ use native.Mathlib.Omega.{arith}
 use lib.Dec.{eqb}
 use lib.ListN.{length, getD}
 use Rattle.table.specs.Table.{typeOf, WellFormed}
-use Rattle.board.specs.Layout.{placeCount, placeLength, areaLength, Whole}
-use Rattle.board.specs.Places.{taken}
-use Rattle.board.specs.View.{View, viewOf, Change, stays, sets, moves, viewAfter, boardAfter, areaAfter}
-use Rattle.board.specs.Calls.{Reply, firstCase, entryAt, watchedMove, moved, Putting, Taking, Acting}
-use Rattle.board.specs.declared.Case.{Case}
-use Rattle.board.specs.declared.Case.the-variants.{Empty, Enforced, Watched, Fulfilled}
-use Rattle.board.specs.declared.Board.{Board}
-use Rattle.board.proofs.PlaceLaws.{length-with-bytes, byte-behind, fits-place, length-with-case, length-board-by}
-use Rattle.board.proofs.ViewLaws.{put-view, take-view, move-view}
-use Rattle.histories.proofs.Ends.{PutEnds, put-not, put-done, put-ends, TakeEnds, take-not, take-done, take-ends, ActEnds, act-not, act-done, act-ends}
+use Rattle.places.specs.Layout.{placeCount, placeLength, areaLength, Whole}
+use Rattle.places.specs.Places.{taken}
+use Rattle.places.specs.declared.Case.{Case}
+use Rattle.places.specs.declared.Case.the-variants.{Empty, Enforced, Watched, Fulfilled}
+use Rattle.places.specs.declared.Board.{Board}
+use Rattle.places.proofs.AreaLaws.{length-with-bytes, byte-behind, fits-place}
+use Rattle.places.proofs.CaseLaws.{length-with-case, length-places-by}
+use Rattle.view.specs.View.{View, viewOf, Change, stays, sets, moves, viewAfter, boardAfter, areaAfter}
+use Rattle.view.specs.Moves.{entryAt, watchedMove, moved}
+use Rattle.view.specs.Steps.{Call, Reply, checksOf, Passes, AllPass, Carries, puts, takes, is-denied, is-permitted, Step}
+use Rattle.view.proofs.ViewLaws.{put-view, take-view, move-view}
+use Rattle.view.proofs.StepLaws.{Ends, is-refused, is-carried, ends}
 
 -- What is set at a place: a rule with a table that passes 10, or nothing.
 pub data Settable : Case → List ℕ → Type 0 where
@@ -43,28 +45,22 @@ moved-taken table action (Enforced row) = refl
 moved-taken table action (Watched row) = watched-taken (entryAt table row action)
 moved-taken table action Fulfilled = refl
 
-module _ {view : View} where
-  pub put-proper : {place : ℕ} {table : List ℕ} {reply : Reply} {change : Change} → Putting placeCount view place table reply change → Proper view change
-  put-proper {place} {table} p = by (put-ends p)
-    where
-      by : {reply : Reply} {change : Change} → PutEnds placeCount view place table reply change → Proper view change
-      by (put-not q) = tt
-      by (put-done m) =
-          (m .below, a-rule (firstCase (typeOf table)) table (taken-if (eqb (typeOf table) 1) (Enforced 0) (Watched 0) refl refl) (m .accepted .formed))
+-- the change of a call
+pub step-proper : {Long Can : Type 0} {places : ℕ} {view : View} {call : Call} {reply : Reply} {change : Change} → places ≤ placeCount
+    → Step Long Can places view call reply change → Proper view change
+step-proper {Long} {Can} {places} {view} {call} few s = by (ends s)
+  where
+    done-to : {call : Call} {reply : Reply} {change : Change} → AllPass (Passes Long Can places view) (checksOf call) → Carries places view call reply change → Proper view change
+    done-to all (puts {table = table}) =
+        let low = all .1 .0 in
+        (omega arith, a-rule _ table (taken-if (eqb (typeOf table) 1) (Enforced 0) (Watched 0) refl refl) (all .1 .1 .1 .1 .0))
+    done-to all takes = let low = all .1 .0 in (omega arith, nothing-on)
+    done-to all (is-denied place h d n) = tt
+    done-to all (is-permitted {action = action} n) = λ i. moved-taken (view .table i) action (view .case i)
 
-  pub take-proper : {place : ℕ} {reply : Reply} {change : Change} → Taking placeCount view place reply change → Proper view change
-  take-proper {place} p = by (take-ends p)
-    where
-      by : {reply : Reply} {change : Change} → TakeEnds placeCount view place reply change → Proper view change
-      by (take-not q) = tt
-      by (take-done m) = (m .below, nothing-on)
-
-  pub act-proper : {action : ℕ} {reply : Reply} {change : Change} → Acting placeCount view action reply change → Proper view change
-  act-proper {action} p = by (act-ends p)
-    where
-      by : {reply : Reply} {change : Change} → ActEnds placeCount view action reply change → Proper view change
-      by (act-not q) = tt
-      by (act-done can-be l n) = λ i. moved-taken (view .table i) action (view .case i)
+    by : {reply : Reply} {change : Change} → Ends (Passes Long Can places view) (Carries places view call) (checksOf call) reply change → Proper view change
+    by (is-refused check n r c) = rw c tt
+    by (is-carried all d) = done-to all d
 
 short : {case : Case} {table : List ℕ} → Settable case table → length table ≤ placeLength
 short (a-rule case table on formed) = fits-place table formed
@@ -86,7 +82,7 @@ module _ (board : Board) (area : List ℕ) (whole : Whole area) where
     pub places-after : (change : Change) → length (boardAfter change board .places) ≡ placeCount
     places-after stays = counted
     places-after (sets place case table) = length-with-case board place case ∙ counted
-    places-after (moves next) = length-board-by placeCount next
+    places-after (moves next) = length-places-by placeCount next
 
     pub view-after : (change : Change) → Proper (viewOf board area) change → viewOf (boardAfter change board) (areaAfter change area) ≡ viewAfter change (viewOf board area)
     view-after stays p = refl

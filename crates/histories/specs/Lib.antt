@@ -1,4 +1,2 @@
 pub mod History
-pub mod NoRefusal
 pub mod Unread
-pub mod Policies

@@ -4,9 +4,9 @@ use mathlib.Core.Path.{_≡_}
 use mathlib.Core.Bool.{true}
 use mathlib.Core.List.{List}
 use Prim.Native.Nat.{ℕ}
-use Rattle.board.specs.Layout.{Whole, storedAt}
-use Rattle.board.specs.Places.{caseAt, taken}
-use Rattle.board.specs.declared.Board.{Board}
+use Rattle.places.specs.Layout.{Whole, storedAt}
+use Rattle.places.specs.Places.{caseAt, taken}
+use Rattle.places.specs.declared.Board.{Board}
 
 -- Both are long enough, and have the same table at the front of each taken place.
 pub record SameTables (board : Board) (area other : List ℕ) : Type 0 where

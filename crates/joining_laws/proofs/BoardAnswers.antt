@@ -3,23 +3,28 @@
 use mathlib.Core.Path.{_≡_, refl, sym, _∙_, ap, subst}
 use mathlib.Core.Bool.{Bool, true, false}
 use mathlib.Core.List.{List, [], _∷_, _++_, List·Memᴰ·head}
-use Prim.Native.Nat.{ℕ, zero, suc, _≤_, _<_}
+use Prim.Native.Nat.{ℕ, _≤_, _<_}
+use native.Mathlib.Decide.{decLt}
 use native.Mathlib.Omega.{arith}
 use Rattle.trace.specs.Trace.{Sequence}
 use Rattle.trace.proofs.Laws.{not-both}
 use Rattle.table.specs.Table.{typeOf, actionsOf}
-use Rattle.board.specs.View.{View, Change}
-use Rattle.board.specs.Calls.{Reply, permitted, denied, input, fulfils, fulfilsAt, setBelow, Acting, act-25, act-24, act-12, act-denied, act-permitted}
-use Rattle.board.specs.declared.Case.{Case}
-use Rattle.histories.specs.History.{Event, Run, Standing, nothing, rule, onPlace, CaseAfter, at-enforced, at-watched, at-fulfilled, PlaceIs}
-use Rattle.histories.specs.History.{Violated, NoneViolated, Judges, permits, denies-lowest}
-use Rattle.histories.proofs.RunPlaces.{keeps, rule-below, rule-taken, taken-rule, possible}
-use Rattle.histories.proofs.RunState.{run-state}
-use Rattle.histories.proofs.RunActions.{in-list-listed}
-use Rattle.histories.proofs.Run.{run-judges}
+use Rattle.view.specs.View.{View, Change}
+use Rattle.view.specs.Steps.{act, Reply, permitted, denied, input, InList, Occupied, checksOf, Passes, Carries, is-denied, is-permitted, Answers, refused, passed, carried}
+use Rattle.view.specs.Moves.{fulfils, fulfilsAt}
+use Rattle.base.specs.Sets.{setBelow}
+use Rattle.base.proofs.Sets.{no-members}
+use Rattle.runs.specs.Runs.{StepOn, Run, CaseAfter, at-enforced, at-watched, at-fulfilled, PlaceIs}
+use Rattle.runs.specs.Events.{Event, Standing, nothing, rule, onPlace}
+use Rattle.runs.specs.Verdicts.{Listed, Violated, NoneViolated, Judges, permits, denies-lowest}
+use Rattle.places.specs.declared.Case.{Case}
+use Rattle.runs.proofs.Places.{keeps, rule-taken}
+use Rattle.runs.proofs.State.{run-state}
+use Rattle.runs.proofs.Actions.{in-list-listed, listed-in-list, carried-judges}
 use Rattle.joining.specs.Meaning.{someTrips}
 use Rattle.joining_laws.specs.Sets.{Member}
-use Rattle.joining_laws.specs.Boards.{Holds, AllEnforced}
+use Rattle.runs.specs.Holding.{Holds}
+use Rattle.joining_laws.specs.Boards.{AllEnforced}
 use Rattle.joining_laws.proofs.SomeTrips.{some-trips-member, member-trips}
 use Rattle.joining_laws.proofs.Enforced.{denies-exactly}
 
@@ -41,10 +46,6 @@ module _ (action : ℕ) where
   place-unfulfilled stored nothing case p o = ap (fulfils stored action) p
   place-unfulfilled stored (rule table since) case p o = rule-unfulfilled stored (p .after) (o table since refl)
 
-no-members : (test : ℕ → Bool) (n : ℕ) → ((i : ℕ) → i < n → test i ≡ false) → setBelow test n ≡ 0
-no-members test zero f = refl
-no-members test (suc n) f = let e = no-members test n (λ i h. f i (omega arith)) in let t = f n (omega arith) in rw (t, e)
-
 first-of : (tables : List (List ℕ)) → (tables ≡ [] → ⊥) → (table : List ℕ) × Member table tables
 first-of [] n = absurd (n refl)
 first-of (table ∷ tables) n = (table, List·Memᴰ·head refl)
@@ -53,7 +54,7 @@ is-false : (b : Bool) → (b ≡ true → ⊥) → b ≡ false
 is-false true n = absurd (n refl)
 is-false false n = refl
 
-module _ {places : ℕ} {events : List Event} {view : View} (r : Run places events view) {tables : List (List ℕ)} {since : List ℕ}
+module _ {events : List Event} {view : View} (r : Run events view) {tables : List (List ℕ)} {since : List ℕ}
     (holds : Holds events tables since) {actions : ℕ} (all : AllEnforced tables actions) (action : ℕ) where
   -- one of the rules
   some-rule : (table : List ℕ) × (i : ℕ) × (onPlace events i ≡ rule table since)
@@ -90,26 +91,45 @@ module _ {places : ℕ} {events : List Event} {view : View} (r : Run places even
   allowed-by : {set : ℕ} → Judges events action (permitted set) → someTrips tables (since ++ (action ∷ [])) ≡ false
   allowed-by (permits set n members) = none-trips n
 
-  unreported : setBelow (fulfilsAt view action) places ≡ 0
-  unreported =
+  unreported : (places : ℕ) → setBelow (fulfilsAt view action) places ≡ 0
+  unreported places =
       no-members (fulfilsAt view action) places
-      (λ i h. place-unfulfilled action (view .table i) (onPlace events i) (view .case i) (run-state r .each i h)
+      (λ i h. place-unfulfilled action (view .table i) (onPlace events i) (view .case i) (run-state r .each i)
       (λ table other e. all .enforced table (holds .rules i table other e .0)))
 
   -- The answer to an action: 12 outside the list, a denial where one of the tables trips, else permitted, with nothing fulfilled.
-  pub told : {reply : Reply} {change : Change} → Acting places view action reply change → Told actions tables since action reply
-  told (act-25 n) = absurd (n (possible (run-state r)))
-  told (act-24 p vacant) =
-      let (table, i, e) = some-rule in not-both (sym (rule-taken (run-state r) i table since e) ∙ vacant i (rule-below (run-state r) i table since e))
-  told (act-12 p place h t l) =
-      let (table, other, e) = taken-rule (run-state r) place h t in
-      unlisted (subst (λ (n : ℕ). n ≤ action) (ap actionsOf (keeps (run-state r) place table other e .stands) ∙ over-actions place table other e) l)
-  told (act-denied p l place h d n) =
-      let listed = in-list-listed events (run-state r) action l in
-      refuses (subst (λ (n : ℕ). action < n) (over-actions (listed .place) (listed .table) (listed .since) (listed .on)) (listed .below))
-      (refused-by (run-judges r listed (act-denied p l place h d n))) place
-  told (act-permitted p l n) =
-      let listed = in-list-listed events (run-state r) action l in
-      subst (λ (set : ℕ). Told actions tables since action (permitted set)) (sym unreported)
-      (allows (subst (λ (n : ℕ). action < n) (over-actions (listed .place) (listed .table) (listed .since) (listed .on)) (listed .below))
-      (allowed-by (run-judges r listed (act-permitted p l n))))
+  pub told : {places : ℕ} {reply : Reply} {change : Change} → StepOn places view (act action) reply change → Told actions tables since action reply
+  told {places} p = by (p .step)
+    where
+      listed-if : action < actions → Listed events action
+      listed-if h =
+          let (table, i, e) = some-rule in
+          record { place = i; table = table; since = since; on = e; below = subst (λ (n : ℕ). action < n) (sym (over-actions i table since e)) h }
+
+      occupied : Occupied places view
+      occupied =
+          let (table, i, e) = some-rule in
+          let t = rule-taken (run-state r) i table since e in
+          record { place = i; below = p .above i t; on = t }
+
+      low : InList places view action → action < actions
+      low l =
+          let k = in-list-listed events (run-state r) action l in
+          subst (λ (n : ℕ). action < n) (over-actions (k .place) (k .table) (k .since) (k .on)) (k .below)
+
+      outside : (InList places view action → ⊥) → actions ≤ action
+      outside n = elim (decLt action actions) [ yes h ↦ absurd (n (listed-in-list events (run-state r) action (p .above) (listed-if h))) | no h ↦ omega arith ]
+
+      done-by : {reply : Reply} {change : Change} → action < actions → Carries places view (act action) reply change → Told actions tables since action reply
+      done-by h (is-denied place g d n) = refuses h (refused-by (carried-judges events (run-state r) action (p .above) (is-denied place g d n))) place
+      done-by h (is-permitted n) =
+          subst (λ (set : ℕ). Told actions tables since action (permitted set)) (sym (unreported places))
+          (allows h (allowed-by (carried-judges events (run-state r) action (p .above) (is-permitted n))))
+
+      by : {reply : Reply} {change : Change} → Answers (Passes (Unit {0}) (Unit {0}) places view) (Carries places view (act action)) reply change (checksOf (act action))
+          → Told actions tables since action reply
+      by (refused n q c) = absurd (n tt)
+      by (passed u (refused n q c)) = absurd (n tt)
+      by (passed u (passed v (refused n q c))) = absurd (n occupied)
+      by (passed u (passed v (passed o (refused n q c)))) = subst (Told actions tables since action) (sym q) (unlisted (outside n))
+      by (passed u (passed v (passed o (passed l (carried d))))) = done-by (low l) d

@@ -8,48 +8,36 @@ use Prim.Native.Nat.{ℕ, _<_}
 use native.Mathlib.Omega.{arith}
 use Rattle.trace.proofs.Laws.{not-both, sequence-append}
 use Rattle.table.specs.Table.{typeOf, actionsOf}
-use Rattle.board.specs.View.{View, Change}
-use Rattle.board.specs.Calls.{Reply, permitted, input, Acting}
-use Rattle.board.specs.declared.Board.{Board}
-use Rattle.histories.specs.History.{Event, act, Run, History, Standing, nothing, rule, isPermitted, followed, IsPermitted}
-use Rattle.histories.proofs.RunPlaces.{no-rule, same-table, same-since}
-use Rattle.histories.proofs.RunReports.{before-act}
+use Rattle.view.specs.View.{View, Change}
+use Rattle.view.specs.Steps.{act, Reply, permitted, input, changes}
+use Rattle.runs.specs.Runs.{StepOn, Run}
+use Rattle.runs.specs.Events.{Event, event, Standing}
+use Rattle.runs.specs.Holding.{HoldsOn, Holds, ActsOnly, none, more}
+use Rattle.histories.specs.History.{History}
+use Rattle.runs.specs.Verdicts.{IsPermitted}
+use Rattle.places.specs.declared.Board.{Board}
+use Rattle.runs.proofs.Reports.{before}
+use Rattle.runs.proofs.Holding.{sinceAfter, holds-after}
 use Rattle.histories.proofs.HistoryRun.{history-run}
 use Rattle.joining.specs.Meaning.{someTrips}
-use Rattle.joining_laws.specs.Boards.{HoldsOn, Holds, AllEnforced, StandsFor, ActsOnly, none, more, AlikeReplies, same, both-denied, Follow}
+use Rattle.joining_laws.specs.Boards.{AllEnforced, StandsFor, AlikeReplies, same, both-denied, none as none-asked, more as one-more, Follow}
+use Rattle.joining_laws.specs.Sets.{SameTables}
 use Rattle.joining_laws.proofs.SomeTrips.{or-none}
 use Rattle.joining_laws.proofs.BoardAnswers.{Told, unlisted, refuses, allows, since-listed, told}
 
--- What is permitted since, behind an answer.
-abbrev pub sinceAfter : Bool → List ℕ → ℕ → List ℕ
-sinceAfter b since action = cond b (since ++ (action ∷ [])) since
-
-followed-from : (action : ℕ) (x : Standing) (table now : List ℕ) → followed action x ≡ rule table now
-    → (before : List ℕ) × (x ≡ rule table before) × (now ≡ before ++ (action ∷ []))
-followed-from action nothing table now e = no-rule e
-followed-from action (rule other before) table now e = (before, ap (λ (t : List ℕ). rule t before) (same-table e), sym (same-since e))
-
--- What places hold behind an answer to an action.
-pub holds-after : {on : ℕ → Standing} {tables : List (List ℕ)} {since : List ℕ} → HoldsOn on tables since → (action : ℕ) (b : Bool)
-    → HoldsOn (λ i. cond b (followed action (on i)) (on i)) tables (sinceAfter b since action)
-holds-after {on} {tables} {since} h action true =
-    record {
-      rules = λ i table now e.
-          let (before, p, q) = followed-from action (on i) table now e in
-          let (m, s) = h .rules i table before p in
-          (m, q ∙ ap (λ (l : List ℕ). l ++ (action ∷ [])) s);
-      each = λ table m. let (i, e) = h .each table m in (i, ap (followed action) e);
-    }
-holds-after h action false = h
+-- Holding tables depends on them as a set.
+pub holds-same : {on : ℕ → Standing} {tables others : List (List ℕ)} {since : List ℕ} → SameTables tables others → HoldsOn on tables since → HoldsOn on others since
+holds-same s h =
+    record { rules = λ i table now e. let (m, q) = h .rules i table now e in (s .in-other table m, q); each = λ table m. h .each table (s .in-one table m) }
 
 -- Alike answers: an action is permitted by the one board exactly when by the other.
 pub alike-permitted : {reply other : Reply} → AlikeReplies reply other → IsPermitted reply ↔ IsPermitted other
 alike-permitted (same reply) = (λ p. p, λ p. p)
-alike-permitted (both-denied place other) = (λ p. not-both (sym (ap isPermitted (p .1))), λ p. not-both (sym (ap isPermitted (p .1))))
+alike-permitted (both-denied place other) = (λ p. not-both (sym (ap changes (p .1))), λ p. not-both (sym (ap changes (p .1))))
 
-permitted-alike : {reply other : Reply} → AlikeReplies reply other → isPermitted reply ≡ isPermitted other
-permitted-alike (same reply) = refl
-permitted-alike (both-denied place other) = refl
+changes-alike : {reply other : Reply} → AlikeReplies reply other → changes reply ≡ changes other
+changes-alike (same reply) = refl
+changes-alike (both-denied place other) = refl
 
 module _ {actions : ℕ} {tables others : List (List ℕ)} {since : List ℕ} {action : ℕ}
     (agree : action < actions → someTrips tables (since ++ (action ∷ [])) ≡ someTrips others (since ++ (action ∷ []))) where
@@ -72,11 +60,11 @@ single-enforced {table} s =
       acting = λ t m. ap actionsOf (List·Memᴰ·eq-of-singleton m) ∙ s .acting;
     }
 
-module _ {table : List ℕ} {tables : List (List ℕ)} {actions : ℕ} (s : StandsFor table tables actions) {places places' : ℕ} where
+module _ {table : List ℕ} {tables : List (List ℕ)} {actions : ℕ} (s : StandsFor table tables actions) where
   -- one more action
   module _ {later events later' others : List Event} (f : Follow tables table later events later' others) {old old' : View}
-      (r : Run places (later ++ events) old) (r' : Run places' (later' ++ others) old') (action : ℕ) {reply reply' : Reply} {change change' : Change}
-      (p : Acting places old action reply change) (p' : Acting places' old' action reply' change') where
+      (r : Run (later ++ events) old) (r' : Run (later' ++ others) old') (action : ℕ) {places places' : ℕ} {reply reply' : Reply} {change change' : Change}
+      (p : StepOn places old (act action) reply change) (p' : StepOn places' old' (act action) reply' change') where
     agree : action < actions → someTrips tables (f .since ++ (action ∷ [])) ≡ someTrips (table ∷ []) (f .since ++ (action ∷ []))
     agree h =
         sym (s .reads (f .since ++ (action ∷ []))
@@ -86,26 +74,26 @@ module _ {table : List ℕ} {tables : List (List ℕ)} {actions : ℕ} (s : Stan
     alike-now : AlikeReplies reply reply'
     alike-now = alike agree (told r (f .holds) (s .all) action p) (told r' (f .holds-one) (single-enforced s) action p')
 
-    next : Follow tables table (act action reply ∷ later) events (act action reply' ∷ later') others
+    next : Follow tables table (event (act action) reply ∷ later) events (event (act action) reply' ∷ later') others
     next =
         record {
-          answers = more action alike-now (f .answers);
-          since = sinceAfter (isPermitted reply) (f .since) action;
-          holds = holds-after (f .holds) action (isPermitted reply);
+          answers = one-more action alike-now (f .answers);
+          since = sinceAfter (changes reply) (f .since) action;
+          holds = holds-after (f .holds) action (changes reply);
           holds-one =
-              subst (λ (b : Bool). Holds (act action reply' ∷ (later' ++ others)) (table ∷ []) (sinceAfter b (f .since) action)) (sym (permitted-alike alike-now))
-              (holds-after (f .holds-one) action (isPermitted reply'));
+              subst (λ (b : Bool). Holds (event (act action) reply' ∷ (later' ++ others)) (table ∷ []) (sinceAfter b (f .since) action)) (sym (changes-alike alike-now))
+              (holds-after (f .holds-one) action (changes reply'));
         }
 
-  -- Two boards, of any numbers of places, that hold the tables and the one that stands for them, with the same actions permitted since, answer the
+  -- Two boards that hold the tables and the one that stands for them, with the same actions permitted since, answer the
   -- same actions alike, and hold the same again.
   pub run-joined-board : {events others : List Event} {since : List ℕ} → Holds events tables since → Holds others (table ∷ []) since
       → {later later' : List Event} {asked : List ℕ} → ActsOnly later asked → ActsOnly later' asked
-      → {view view' : View} → Run places (later ++ events) view → Run places' (later' ++ others) view' → Follow tables table later events later' others
-  run-joined-board {since = since} h h' none none r r' = record { answers = none; since = since; holds = h; holds-one = h' }
+      → {view view' : View} → Run (later ++ events) view → Run (later' ++ others) view' → Follow tables table later events later' others
+  run-joined-board {since = since} h h' none none r r' = record { answers = none-asked; since = since; holds = h; holds-one = h' }
   run-joined-board h h' (more action reply acts) (more _ reply' acts') r r' =
-      let (old, change, g, p) = before-act r in
-      let (old', change', g', p') = before-act r' in
+      let (old, change, places, g, p) = before r in
+      let (old', change', places', g', p') = before r' in
       next (run-joined-board h h' acts acts' g g') g g' action p p'
 
 module _ {table : List ℕ} {tables : List (List ℕ)} {actions : ℕ} (s : StandsFor table tables actions) where

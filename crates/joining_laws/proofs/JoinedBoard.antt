@@ -6,19 +6,21 @@ use Prim.Native.Nat.{ℕ, _≤_}
 use native.Mathlib.Omega.{arith}
 use Rattle.table.specs.Table.{typeOf, actionsOf}
 use Rattle.table.specs.Answer.{accepted}
-use Rattle.board.specs.declared.Board.{Board}
-use Rattle.histories.specs.History.{Event, History}
+use Rattle.places.specs.declared.Board.{Board}
+use Rattle.runs.specs.Events.{Event}
+use Rattle.histories.specs.History.{History}
 use Rattle.histories.proofs.HistoryRun.{history-run}
-use Rattle.histories.proofs.RunReports.{beginning}
+use Rattle.runs.proofs.Reports.{beginning}
 use Rattle.joining.specs.Tables.{tableAt, tablesIn}
 use Rattle.joining.specs.Joins.{Joins}
 use Rattle.joining_laws.specs.Conjunction.{JoinedTable}
 use Rattle.joining_laws.specs.Sets.{Member, SameTables}
-use Rattle.joining_laws.specs.Boards.{Holds, StandsFor, PutsOnly, ActsOnly, AlikeAnswers, Follow}
+use Rattle.joining_laws.specs.Boards.{StandsFor, AlikeAnswers, Follow}
+use Rattle.runs.specs.Holding.{Holds, PutsOnly, ActsOnly}
 use Rattle.joining_laws.proofs.SomeTrips.{listed-member, member-listed}
 use Rattle.joining_laws.proofs.JoinedTable.{joined-table}
-use Rattle.joining_laws.proofs.Boards.{run-joined-board, joined-board}
-use Rattle.joining_laws.proofs.Putting.{holds-same, run-puts-hold}
+use Rattle.joining_laws.proofs.Boards.{holds-same, run-joined-board, joined-board}
+use Rattle.runs.proofs.Holding.{run-puts-hold}
 
 -- A joined table stands for its tables.
 pub stands-for : {count : ℕ} {input : List ℕ} {type actions rows : ℕ} {written : List ℕ} → JoinedTable count input type actions rows written

@@ -9,6 +9,5 @@ pub mod Itself
 pub mod Groups
 pub mod BoardAnswers
 pub mod Boards
-pub mod Putting
 pub mod JoinedBoard
 pub mod Policies

@@ -9,7 +9,7 @@ use Rattle.trace.specs.Trace.{Sequence}
 use Rattle.table.specs.Table.{actionsOf, verdict}
 use Rattle.table.specs.Answer.{accepted}
 use Rattle.compiler_laws.proofs.CompiledTable.{compiled-accepted, compiled-table}
-use Rattle.histories.specs.Policies.{CompiledFrom, satisfiesSheet}
+use Rattle.board_policies.specs.Policies.{CompiledFrom, satisfiesSheet}
 use Rattle.joining.specs.Tables.{tableAt}
 use Rattle.joining.specs.Joins.{Joins}
 use Rattle.joining_laws.specs.Conjunction.{SatisfiedWhere}

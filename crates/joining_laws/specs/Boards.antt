@@ -5,20 +5,11 @@ use mathlib.Core.List.{List, [], _∷_, _++_}
 use Prim.Native.Nat.{ℕ}
 use Rattle.trace.specs.Trace.{Sequence, trips}
 use Rattle.table.specs.Table.{typeOf, actionsOf, rowStep}
-use Rattle.board.specs.Calls.{Reply, done, denied}
-use Rattle.histories.specs.History.{Event, put-on, act, Standing, rule, onPlace}
+use Rattle.view.specs.Steps.{act, Reply, denied}
+use Rattle.runs.specs.Events.{Event, event}
+use Rattle.runs.specs.Holding.{Holds}
 use Rattle.joining.specs.Meaning.{someTrips}
 use Rattle.joining_laws.specs.Sets.{Member}
-
--- The places hold these tables and no others: every rule is one of them, with exactly these actions permitted since it was put on, and each of them
--- is on some place.
-pub record HoldsOn (on : ℕ → Standing) (tables : List (List ℕ)) (since : List ℕ) : Type 0 where
-  pub rules : (i : ℕ) (table actions : List ℕ) → on i ≡ rule table actions → Member table tables × (actions ≡ since)
-  pub each : (table : List ℕ) → Member table tables → (i : ℕ) × (on i ≡ rule table since)
-
--- A board holds them, as its events say.
-abbrev pub Holds : List Event → (tables : List (List ℕ)) (since : List ℕ) → Type 0
-Holds events = HoldsOn (onPlace events)
 
 -- One table or more, all enforced, over one number of actions.
 pub record AllEnforced (tables : List (List ℕ)) (actions : ℕ) : Type 0 where
@@ -33,17 +24,6 @@ pub record StandsFor (table : List ℕ) (tables : List (List ℕ)) (actions : �
   pub acting : actionsOf table ≡ actions
   pub reads : (w : List ℕ) → Sequence actions w → trips (rowStep table) 0 w ≡ someTrips tables w
 
--- These tables were put on, each with success, the newest first.
-pub data PutsOnly : List Event → List (List ℕ) → Type 0 where
-  none : PutsOnly [] []
-  more : {events : List Event} {tables : List (List ℕ)} (place : ℕ) (table : List ℕ) → PutsOnly events tables
-      → PutsOnly (put-on place table done ∷ events) (table ∷ tables)
-
--- These actions were asked for, the newest first.
-pub data ActsOnly : List Event → List ℕ → Type 0 where
-  none : ActsOnly [] []
-  more : {events : List Event} {actions : List ℕ} (action : ℕ) (reply : Reply) → ActsOnly events actions → ActsOnly (act action reply ∷ events) (action ∷ actions)
-
 -- The same answer; or both are denials, and may name different places.
 pub data AlikeReplies : Reply → Reply → Type 0 where
   same : (reply : Reply) → AlikeReplies reply reply
@@ -53,7 +33,7 @@ pub data AlikeReplies : Reply → Reply → Type 0 where
 pub data AlikeAnswers : List Event → List Event → Type 0 where
   none : AlikeAnswers [] []
   more : {events others : List Event} {reply reply' : Reply} (action : ℕ) → AlikeReplies reply reply' → AlikeAnswers events others
-      → AlikeAnswers (act action reply ∷ events) (act action reply' ∷ others)
+      → AlikeAnswers (event (act action) reply ∷ events) (event (act action) reply' ∷ others)
 
 -- Two boards, the one with several tables and the other with one for all of them, after the same actions: the answers to these are alike, and the
 -- boards hold what they held, with the same actions permitted since.

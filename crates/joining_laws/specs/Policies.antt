@@ -7,7 +7,7 @@ use mathlib.Core.Logic.{_↔_}
 use Prim.Native.Nat.{ℕ, _<_}
 use Rattle.trace.specs.Trace.{Sequence}
 use Rattle.syntax.specs.declared.Sheet.{Sheet}
-use Rattle.histories.specs.Policies.{CompiledFrom, satisfiesSheet}
+use Rattle.board_policies.specs.Policies.{CompiledFrom, satisfiesSheet}
 use Rattle.joining.specs.Tables.{tableAt}
 
 -- A sheet for each of the tables.

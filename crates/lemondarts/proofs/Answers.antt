@@ -1,20 +1,27 @@
 -- The answer read from a returned number is the one that the wrapped call gave: different answers of a call have different numbers.
 -- Assumes nothing.
-use mathlib.Core.Path.{_≡_, refl, sym, _∙_, ap, ap₂}
+use mathlib.Core.Path.{_≡_, refl, sym, _∙_, ap, ap₂, subst}
+use mathlib.Core.Bool.{true, false}
+use mathlib.Core.Logic.{_↔_, inl, inr}
 use mathlib.Core.List.{List, [], _∷_}
 use Prim.Native.Nat.{ℕ, _≤_, _<_}
 use native.Mathlib.Omega.{arith}
 use lib.ListN.{getD}
 use Rattle.table.specs.Answer.{Answer, accepted, refused, Loads, accepts, malformed, not-canonical}
-use Rattle.board.specs.Layout.{placeCount}
-use Rattle.board.specs.View.{viewOf, Change}
-use Rattle.board.specs.Calls.{Reply, permitted, denied, input, Makes, made, make-14, Calls, short, called, PutsOn, Putting, put-13, put-25, put-22, put-refused, put-23, put}
-use Rattle.board.specs.Calls.{TakesOff, Taking, take-13, take-25, take-21, taken-off, Acts, Acting, act-25, act-24, act-12, act-denied, act-permitted, fulfilsAt, setBelow}
-use Rattle.board.specs.declared.Board.{Board}
-use Rattle.board.proofs.Scanning.{set-byte}
+use Rattle.base.specs.Sets.{setBelow}
+use Rattle.base.proofs.Sets.{set-width}
+use Rattle.trace.proofs.Laws.{not-both}
+use Rattle.places.specs.Layout.{placeCount, Whole}
+use Rattle.places.specs.declared.Board.{Board}
+use Rattle.view.specs.View.{View, viewOf, Change}
+use Rattle.view.specs.Moves.{fulfilsAt}
+use Rattle.view.specs.Steps.{Call, put-on, take-off, act, Reply, done, permitted, denied, isRefusal, Check, short-area, no-place, impossible, place-taken, place-empty}
+use Rattle.view.specs.Steps.{malformed as bad-table, misnumbered, other-actions, board-empty, no-action, refusal, checksOf, Passes, Carries, puts, takes, is-denied, is-permitted}
+use Rattle.view.specs.Calls.{CanBe, Calls, Makes, made, make-14}
+use Rattle.view.proofs.StepLaws.{Ends, is-refused, is-carried, ends, refusal-refuses, step-exactly}
 use Rattle.base.specs.Fields.{fieldSize, fieldIn}
 use Rattle.answers.specs.Numbers.{pack, packedReply, packedAnswer}
-use Rattle.lemondarts.specs.Session.{numberIn, valueIn, replyBy, changeReply, actionReply}
+use Rattle.lemondarts.specs.Session.{numberIn, valueIn, replyBy, replyIn, Succeeds}
 use Rattle.base.proofs.Fields.{field-back}
 
 -- A number and a value within their fields.
@@ -54,60 +61,80 @@ load-answer (accepts a) =
 load-answer (malformed f) = refused-says 10 0 (omega arith) (omega arith)
 load-answer (not-canonical f c) = refused-says 11 0 (omega arith) (omega arith)
 
-pub make-answer : {area left : List ℕ} {reply : Reply} {next : Board} → Makes area reply next left → changeReply (packedReply reply) ≡ reply
+pub make-answer : {area left : List ℕ} {reply : Reply} {next : Board} → Makes area reply next left → replyBy done (numberIn (packedReply reply)) (valueIn (packedReply reply)) ≡ reply
 make-answer (made w) = refl
 make-answer (make-14 n) = refl
 
--- A call on a board and its area, where the call on their view gives back its own answers.
-called-answer : {call : Reply → Change → Type 0} (read : Reply → Reply) → read (input 14 0) ≡ input 14 0 → ((reply : Reply) (change : Change) → call reply change → read reply ≡ reply)
-    → {board next : Board} {area left : List ℕ} {reply : Reply} → Calls call board area reply next left → read reply ≡ reply
-called-answer read fourteen back (short w e f g) = ap read e ∙ fourteen ∙ sym e
-called-answer read fourteen back {reply = reply} (called w change p f g) = back reply change p
-
-abbrev changeBack : Reply → Reply
-changeBack reply = changeReply (packedReply reply)
-
-abbrev actionBack : Reply → Reply
-actionBack reply = actionReply (packedReply reply)
-
-module _ {board : Board} {area : List ℕ} where
-  pub put-answer : {place : ℕ} {table left : List ℕ} {reply : Reply} {next : Board} → PutsOn board area place table reply next left → changeReply (packedReply reply) ≡ reply
-  put-answer = called-answer changeBack refl (λ reply change p. back p)
-    where
-      back : {place : ℕ} {table : List ℕ} {reply : Reply} {change : Change} → Putting placeCount (viewOf board area) place table reply change → changeBack reply ≡ reply
-      back (put-13 h) = refl
-      back (put-25 h n) = refl
-      back (put-22 h p t) = refl
-      back (put-refused h p t number (malformed f)) = refl
-      back (put-refused h p t number (not-canonical f c)) = refl
-      back (put-23 h p t type actions rows l n) = refl
-      back (put h p t type actions rows l same) = refl
-
-  pub take-answer : {place : ℕ} {left : List ℕ} {reply : Reply} {next : Board} → TakesOff board area place reply next left → changeReply (packedReply reply) ≡ reply
-  take-answer = called-answer changeBack refl (λ reply change p. back p)
-    where
-      back : {place : ℕ} {reply : Reply} {change : Change} → Taking placeCount (viewOf board area) place reply change → changeBack reply ≡ reply
-      back (take-13 h) = refl
-      back (take-25 h n) = refl
-      back (take-21 h p t) = refl
-      back (taken-off h p t) = refl
-
 -- the answers to an action that carry a value
-permitted-back : (set : ℕ) → set < fieldSize → actionReply (packedReply (permitted set)) ≡ permitted set
+permitted-back : (set : ℕ) → set < fieldSize → replyBy (permitted (valueIn (packedReply (permitted set)))) (numberIn (packedReply (permitted set))) (valueIn (packedReply (permitted set))) ≡ permitted set
 permitted-back set h = ap₂ (λ (n v : ℕ). replyBy (permitted v) n v) (number-of 0 set (omega arith)) (value-of 0 set h)
 
-denied-back : (place : ℕ) → place < fieldSize → actionReply (packedReply (denied place)) ≡ denied place
+denied-back : (place : ℕ) → place < fieldSize → replyBy (permitted (valueIn (packedReply (denied place)))) (numberIn (packedReply (denied place))) (valueIn (packedReply (denied place))) ≡ denied place
 denied-back place h = ap₂ (λ (n v : ℕ). replyBy (permitted v) n v) (number-of 255 place (omega arith)) (value-of 255 place h)
 
-pub act-answer : {board : Board} {area : List ℕ} {next : Board} {action : ℕ} {reply : Reply} → Acts board area action reply next
-    → actionReply (packedReply reply) ≡ reply
-act-answer {board} {area} = called-answer actionBack refl (λ reply change p. back p)
-  where
-    back : {action : ℕ} {reply : Reply} {change : Change} → Acting placeCount (viewOf board area) action reply change → actionBack reply ≡ reply
-    back (act-25 n) = refl
-    back (act-24 p v) = refl
-    back (act-12 p place h t l) = refl
-    back (act-denied p l place h e n) = denied-back place (omega arith)
-    back {action} (act-permitted p l n) =
-        let fulfilled = fulfilsAt (viewOf board area) action in
-        permitted-back (setBelow fulfilled placeCount) (omega (arith, set-byte fulfilled))
+refusal-back : (call : Call) (check : Check) → replyIn call (packedReply (refusal check)) ≡ refusal check
+refusal-back call short-area = refl
+refusal-back call (no-place place) = refl
+refusal-back call impossible = refl
+refusal-back call (place-taken place) = refl
+refusal-back call (place-empty place) = refl
+refusal-back call (bad-table table) = refl
+refusal-back call (misnumbered table) = refl
+refusal-back call (other-actions table) = refl
+refusal-back call board-empty = refl
+refusal-back call (no-action action) = refl
+
+carried-back : {view : View} {call : Call} {reply : Reply} {change : Change} → Carries placeCount view call reply change → replyIn call (packedReply reply) ≡ reply
+carried-back puts = refl
+carried-back takes = refl
+carried-back (is-denied place h d n) = denied-back place (omega arith)
+carried-back {view} (is-permitted {action = action} n) =
+    permitted-back (setBelow (fulfilsAt view action) placeCount) (omega (arith, set-width (fulfilsAt view action) placeCount))
+
+-- The number of a refusal is neither 0 nor 255.
+refusal-number : (check : Check) → (numberIn (packedReply (refusal check)) ≡ 0 → ⊥) × (numberIn (packedReply (refusal check)) ≡ 255 → ⊥)
+refusal-number short-area = omega arith
+refusal-number (no-place place) = omega arith
+refusal-number impossible = omega arith
+refusal-number (place-taken place) = omega arith
+refusal-number (place-empty place) = omega arith
+refusal-number (bad-table table) = omega arith
+refusal-number (misnumbered table) = omega arith
+refusal-number (other-actions table) = omega arith
+refusal-number board-empty = omega arith
+refusal-number (no-action action) = omega arith
+
+refused-fails : (call : Call) (check : Check) → Succeeds call (packedReply (refusal check)) → ⊥
+refused-fails (put-on place table) check e = refusal-number check .0 e
+refused-fails (take-off place) check e = refusal-number check .0 e
+refused-fails (act action) check (inl e) = refusal-number check .0 e
+refused-fails (act action) check (inr e) = refusal-number check .1 e
+
+carried-succeeds : {view : View} {call : Call} {reply : Reply} {change : Change} → Carries placeCount view call reply change → Succeeds call (packedReply reply)
+carried-succeeds puts = refl
+carried-succeeds takes = refl
+carried-succeeds (is-denied place h d n) = inr (number-of 255 place (omega arith))
+carried-succeeds (is-permitted n) = inl (number-of 0 _ (omega arith))
+
+module _ {board : Board} {area : List ℕ} {call : Call} {reply : Reply} {next : Board} {left : List ℕ} (p : Calls board area call reply next left) where
+  abbrev Ended : Type 0
+  Ended = Ends (Passes (Whole area) (CanBe placeCount board area) placeCount (viewOf board area)) (Carries placeCount (viewOf board area) call) (checksOf call) reply (p .change)
+
+  -- Reading back the number of what a call answers gives the answer: different answers of a call have different numbers.
+  pub answer-back : replyIn call (packedReply reply) ≡ reply
+  answer-back = by (ends (p .step))
+    where
+      by : Ended → replyIn call (packedReply reply) ≡ reply
+      by (is-refused check n r c) = ap (λ (x : Reply). replyIn call (packedReply x)) r ∙ refusal-back call check ∙ sym r
+      by (is-carried all d) = carried-back d
+
+  -- The number says that the call was carried out exactly when the answer is no refusal.
+  pub succeeds-exactly : Succeeds call (packedReply reply) ↔ (isRefusal reply ≡ false)
+  succeeds-exactly = by (ends (p .step))
+    where
+      by : Ended → Succeeds call (packedReply reply) ↔ (isRefusal reply ≡ false)
+      by (is-refused check n r c) = (
+        λ s. absurd (refused-fails call check (subst (λ (x : Reply). Succeeds call (packedReply x)) r s)),
+        λ e. not-both (sym (refusal-refuses check) ∙ sym (ap isRefusal r) ∙ e),
+      )
+      by (is-carried all d) = (λ s. step-exactly (p .step) .1 all, λ e. carried-succeeds d)

@@ -9,8 +9,8 @@ use lib.ListN.{getD}
 use Rattle.table.specs.Answer.{accepted}
 use Rattle.making.specs.Making.{short, makes}
 use Rattle.compiler.specs.Compiles.{Compiles}
-use Rattle.histories.specs.History.{Event}
-use Rattle.joining_laws.specs.Boards.{PutsOnly, ActsOnly}
+use Rattle.runs.specs.Events.{Event}
+use Rattle.runs.specs.Holding.{PutsOnly, ActsOnly}
 use Rattle.explaining.specs.Explains.{Explanation, no-denial, denied, refused, Explains}
 use Rattle.explaining.specs.Calling.{ExplainsInto}
 use Rattle.explaining_laws.specs.Boards.{AllPermitted, DeniedAfter}

@@ -11,10 +11,11 @@ use Rattle.making.specs.Making.{short, makes}
 use Rattle.joining.specs.Tables.{tablesIn, Unfit, malformed, not-canonical, watched}
 use Rattle.joining.specs.Joins.{Meets, many-tuples, many-rows, joins, Joins, miscounted, unfit, left-over, mixed, meets}
 use Rattle.joining.specs.Calling.{JoinsInto}
-use Rattle.histories.specs.History.{Event}
+use Rattle.runs.specs.Events.{Event}
 use Rattle.joining_laws.specs.Conjunction.{JoinedTable}
 use Rattle.joining_laws.specs.Sets.{SameTables}
-use Rattle.joining_laws.specs.Boards.{PutsOnly, ActsOnly, AlikeAnswers}
+use Rattle.runs.specs.Holding.{PutsOnly, ActsOnly}
+use Rattle.joining_laws.specs.Boards.{AlikeAnswers}
 use Rattle.joining_laws.proofs.JoinedTable.{joined-table}
 use Rattle.joining_laws.proofs.Calls.{joined-in-output}
 use Rattle.joining_laws.proofs.JoinedBoard.{joined-board-from-new}

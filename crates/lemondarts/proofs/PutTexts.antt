@@ -1,40 +1,26 @@
 -- Where each table that was put on comes from a text, so does each rule on the board.
 -- Assumes nothing.
-use mathlib.Core.Path.{_≡_, refl, subst}
-use mathlib.Core.Bool.{Bool, true, false, cond, _&&_}
+use mathlib.Core.Path.{_≡_, refl, sym, subst}
 use mathlib.Core.List.{List, [], _∷_}
 use Prim.Native.Nat.{ℕ}
-use native.Mathlib.Omega.{arith}
-use lib.Dec.{eqb}
-use Rattle.histories.specs.History.{Event, put-on, take-off, act, Standing, nothing, rule, isDone, isPermitted, followed, onPlace}
+use Rattle.runs.specs.Events.{Event, Effect, none, put, off, read, effectAt, Standing, nothing, rule, after, onPlace}
+use Rattle.runs.proofs.Places.{no-rule, same-table}
 use Rattle.text_laws.specs.Boards.{FromText, EnforcedTexts}
 use Rattle.lemondarts.specs.TextTables.{PutTexts}
 
 -- what is on a place was put there by one of the events
 module _ (table : List ℕ) where
-  put-there : (isPut isPlace : Bool) {put since : List ℕ} {before : Standing} → (isPut ≡ true → FromText put)
-      → (before ≡ rule table since → FromText table) → cond (isPut && isPlace) (rule put []) before ≡ rule table since → FromText table
-  put-there true true made rest e = subst FromText (cc) (made refl)
-  put-there true false made rest e = rest e
-  put-there false isPlace made rest e = rest e
-
-  left-there : (isOff : Bool) {since : List ℕ} {before : Standing} → (before ≡ rule table since → FromText table)
-      → cond isOff nothing before ≡ rule table since → FromText table
-  left-there true rest e = let z : _≡_ {A = ℕ} 0 1 = cc in absurd (omega arith)
-  left-there false rest e = rest e
-
-  kept-there : (isOn : Bool) (action : ℕ) (before : Standing) {since : List ℕ} → ((earlier : List ℕ) → before ≡ rule table earlier → FromText table)
-      → cond isOn (followed action before) before ≡ rule table since → FromText table
-  kept-there true action nothing rest e = let z : _≡_ {A = ℕ} 0 1 = cc in absurd (omega arith)
-  kept-there true action (rule other earlier) rest e = rest earlier (cc)
-  kept-there false action before rest e = rest _ e
+  by-effect : (e : Effect) (x : Standing) (since : List ℕ) → ((other : List ℕ) → e ≡ put other → FromText other) → ((earlier : List ℕ) → x ≡ rule table earlier → FromText table)
+      → after e x ≡ rule table since → FromText table
+  by-effect none x since made rest e = rest since e
+  by-effect (put other) x since made rest e = subst FromText (same-table e) (made other refl)
+  by-effect off x since made rest e = no-rule e
+  by-effect (read action) nothing since made rest e = no-rule e
+  by-effect (read action) (rule other earlier) since made rest e = rest earlier (cc)
 
   on-from-text : (events : List Event) → PutTexts events → (i : ℕ) (since : List ℕ) → onPlace events i ≡ rule table since → FromText table
-  on-from-text [] p i since on = let z : _≡_ {A = ℕ} 0 1 = cc in absurd (omega arith)
-  on-from-text (put-on place other reply ∷ events) p i since on =
-      put-there (isDone reply) (eqb place i) (p .0) (on-from-text events (p .1) i since) on
-  on-from-text (take-off place reply ∷ events) p i since on = left-there (isDone reply && eqb place i) (on-from-text events p i since) on
-  on-from-text (act action reply ∷ events) p i since on = kept-there (isPermitted reply) action (onPlace events i) (on-from-text events p i) on
+  on-from-text [] p i since on = no-rule on
+  on-from-text (e ∷ events) p i since on = by-effect (effectAt e i) (onPlace events i) since (p .0 i) (on-from-text events (p .1) i) on
 
 pub put-texts-on : (events : List Event) → PutTexts events → EnforcedTexts events
 put-texts-on events p i table since on enforced = on-from-text table events p i since on

@@ -5,8 +5,8 @@ use mathlib.Core.Bool.{Bool, cond}
 use mathlib.Core.List.{List}
 use Prim.Native.Nat.{ℕ, _≤_}
 use lib.ListN.{length}
-use Rattle.board.specs.Calls.{Reply}
-use Rattle.board.specs.declared.Board.{Board}
+use Rattle.places.specs.declared.Board.{Board}
+use Rattle.view.specs.Steps.{Reply}
 use Rattle.records.specs.Record.{recordLength, boardOf, written}
 use Rattle.answers.specs.Numbers.{packedReply, AnswerIs}
 use Rattle.lemondarts.specs.Exports.{Returns, called}

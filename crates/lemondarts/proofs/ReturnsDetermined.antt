@@ -3,16 +3,16 @@
 use mathlib.Core.Path.{_≡_, refl, sym, _∙_, ap, ap₂}
 use mathlib.Core.List.{List}
 use Prim.Native.Nat.{ℕ}
-use Rattle.board.specs.Calls.{Reply}
-use Rattle.board.specs.declared.Board.{Board}
+use Rattle.places.specs.declared.Board.{Board}
+use Rattle.view.specs.Steps.{Call, Reply}
 use Rattle.table.proofs.Loading.{load-determined}
 use Rattle.compiler_laws.proofs.Calls.{call-determined}
-use Rattle.histories.proofs.CallsDetermined.{makes-determined, puts-on-determined, takes-off-determined, acts-determined}
+use Rattle.histories.proofs.Calls.{makes-determined, calls-determined}
 use Rattle.text_laws.proofs.Outcomes.{text-determined}
 use Rattle.joining_laws.proofs.Outcome.{join-call-determined}
 use Rattle.explaining_laws.proofs.Outcome.{explain-call-determined}
 use Rattle.answers.specs.Numbers.{packedReply, packedAnswer}
-use Rattle.lemondarts.specs.Exports.{LoadReturns, Returns, short-record, called, recordAfter, NewBoardReturns, PutOnReturns, TakeOffReturns, ActionReturns}
+use Rattle.lemondarts.specs.Exports.{LoadReturns, Returns, short-record, called, recordAfter, NewBoardReturns, CallReturns}
 use Rattle.lemondarts.specs.Compiling.{CompileReturns}
 use Rattle.lemondarts.specs.Joining.{JoinReturns}
 use Rattle.answers.specs.Explanations.{packedExplanation}
@@ -61,17 +61,6 @@ module _ {bytes area : List ℕ} {returned other : ℕ} {bytes' bytes'' area' ar
       → (returned ≡ other) × (bytes' ≡ bytes'') × (area' ≡ area'')
   new-board-returns-determined = returns-determined (λ r r' b b' l l' p q. makes-determined p q)
 
-  pub put-on-returns-determined : {place : ℕ} {table : List ℕ} → PutOnReturns bytes area place table returned bytes' area'
-      → PutOnReturns bytes area place table other bytes'' area'' → (returned ≡ other) × (bytes' ≡ bytes'') × (area' ≡ area'')
-  put-on-returns-determined = returns-determined (λ r r' b b' l l' p q. puts-on-determined p q)
-
-  pub take-off-returns-determined : {place : ℕ} → TakeOffReturns bytes area place returned bytes' area'
-      → TakeOffReturns bytes area place other bytes'' area'' → (returned ≡ other) × (bytes' ≡ bytes'') × (area' ≡ area'')
-  take-off-returns-determined = returns-determined (λ r r' b b' l l' p q. takes-off-determined p q)
-
-  pub action-returns-determined : {action : ℕ} → ActionReturns bytes area action returned bytes' area'
-      → ActionReturns bytes area action other bytes'' area'' → (returned ≡ other) × (bytes' ≡ bytes'') × (area' ≡ area'')
-  action-returns-determined =
-      returns-determined
-      (λ r r' b b' l l' p q.
-      let (e, f) = acts-determined (p .acts) (q .acts) in (e, f, p .unchanged ∙ sym (q .unchanged)))
+  pub call-returns-determined : {call : Call} → CallReturns bytes area call returned bytes' area' → CallReturns bytes area call other bytes'' area''
+      → (returned ≡ other) × (bytes' ≡ bytes'') × (area' ≡ area'')
+  call-returns-determined = returns-determined (λ r r' b b' l l' p q. calls-determined p q)

@@ -1,69 +1,59 @@
 -- Demand 2 of what C sees: the theorems over histories, for a record and an area used only through the exported calls, in the numbers returned.
 -- Assumes nothing.
 use mathlib.Core.Path.{_≡_, refl, sym, _∙_, ap, subst}
+use mathlib.Core.Bool.{false}
 use mathlib.Core.List.{List}
 use mathlib.Core.Logic.{_↔_}
 use Prim.Native.Nat.{ℕ, _<_}
 use native.Mathlib.Omega.{arith}
-use Rattle.board.specs.Layout.{placeCount}
-use Rattle.board.specs.Calls.{Reply, done, permitted, denied, Acts}
-use Rattle.board.specs.declared.Board.{Board}
-use Rattle.histories.specs.History.{Event, MayPut, MayTake, Listed, Violated, NoneViolated, FirstFulfilled, Member, IsPermitted}
-use Rattle.histories.proofs.History.{put-exactly, take-exactly, permit-exactly, deny-otherwise, fulfilled-exactly}
+use Rattle.base.specs.Sets.{Member}
+use Rattle.places.specs.Layout.{placeCount}
+use Rattle.places.specs.declared.Board.{Board}
+use Rattle.view.specs.Steps.{Call, act, Reply, permitted, denied, isRefusal}
+use Rattle.view.specs.Calls.{Calls}
+use Rattle.runs.specs.Events.{Event}
+use Rattle.runs.specs.Verdicts.{Listed, May, Violated, NoneViolated, FirstFulfilled, IsPermitted}
+use Rattle.histories.proofs.History.{carried-exactly, permit-exactly, deny-otherwise, fulfilled-exactly}
 use Rattle.records.specs.Record.{boardOf}
 use Rattle.answers.specs.Numbers.{packedReply}
-use Rattle.lemondarts.specs.Exports.{Returns, short-record, called, PutOnReturns, TakeOffReturns, ActionReturns}
-use Rattle.lemondarts.specs.Session.{numberIn, valueIn, replyBy, changeReply, actionReply, Session}
-use Rattle.lemondarts.proofs.Answers.{number-of, put-answer, take-answer, act-answer}
+use Rattle.lemondarts.specs.Exports.{short-record, called, CallReturns}
+use Rattle.lemondarts.specs.Session.{numberIn, valueIn, replyBy, replyIn, Succeeds, Session}
+use Rattle.lemondarts.proofs.Answers.{number-of, answer-back, succeeds-exactly}
 use Rattle.lemondarts.proofs.Sessions.{session-history}
 
--- The answer of a call, from the number that it returns: the number 0 and the number 255 say which it was, and the value what it says.
-zero-good : (good : Reply) (number value : ℕ) → number ≡ 0 → replyBy good number value ≡ good
-zero-good good number value e = ap (λ (n : ℕ). replyBy good n value) e
-
--- done, exactly when 0 is returned
-zero-done : {M : Type 0} {returned : ℕ} (reply : Reply) → returned ≡ packedReply reply → changeReply (packedReply reply) ≡ reply → (reply ≡ done) ↔ M
-    → (numberIn returned ≡ 0) ↔ M
-zero-done {returned = returned} reply packed back e = (
-  λ n. e .0 (sym back ∙ ap changeReply (sym packed) ∙ zero-good done (numberIn returned) (valueIn returned) n),
-  λ m. ap numberIn (packed ∙ ap packedReply (e .1 m)),
-)
-
 -- The answer that a call gave on the board of its record.
-pub record Answered (call : Reply → Board → List ℕ → Type 0) (returned : ℕ) : Type 0 where
+pub record Answered (board : Board) (area : List ℕ) (call : Call) (returned : ℕ) : Type 0 where
   pub reply : Reply
   pub next : Board
   pub left : List ℕ
-  pub gave : call reply next left
+  pub gave : Calls board area call reply next left
   pub packed : returned ≡ packedReply reply
 
 module _ {events : List Event} {bytes area : List ℕ} (s : Session events bytes area) where
   -- a record used through the calls is long enough
-  pub answered : {call : Reply → Board → List ℕ → Type 0} {returned : ℕ} {bytes' area' : List ℕ} → Returns call bytes area returned bytes' area' → Answered call returned
+  pub answered : {call : Call} {returned : ℕ} {bytes' area' : List ℕ} → CallReturns bytes area call returned bytes' area' → Answered (boardOf bytes) area call returned
   answered (short-record n) = absurd (n (session-history s .long))
   answered (called long reply next left p) = record { reply = reply; next = next; left = left; gave = p; packed = refl }
 
-  -- A table is put on, 0 returned, exactly when no refusal stated for that call applies.
-  pub session-put-exactly : {place returned : ℕ} {table bytes' area' : List ℕ} → PutOnReturns bytes area place table returned bytes' area'
-      → (numberIn returned ≡ 0) ↔ MayPut placeCount events place table
-  session-put-exactly r =
+  -- A call succeeds, by the number that it returns, exactly when no refusal stated for it applies: a table is put on, 0 returned; a place is taken off,
+  -- 0 returned; an action is permitted or denied, 0 or 255 returned.
+  pub session-exactly : {call : Call} {returned : ℕ} {bytes' area' : List ℕ} → CallReturns bytes area call returned bytes' area'
+      → Succeeds call returned ↔ May placeCount events call
+  session-exactly {call} r =
       let a = answered r in
-      zero-done (a .reply) (a .packed) (put-answer (a .gave)) (put-exactly (session-history s .history) (a .gave))
+      let (to, from) = succeeds-exactly (a .gave) in
+      let (there, back) = carried-exactly (session-history s .history) (a .gave) in (
+        λ z. there (to (subst (Succeeds call) (a .packed) z)),
+        λ m. subst (Succeeds call) (sym (a .packed)) (from (back m)),
+      )
 
-  -- A place is taken off, 0 returned, exactly when no refusal stated for that call applies.
-  pub session-take-exactly : {place returned : ℕ} {bytes' area' : List ℕ} → TakeOffReturns bytes area place returned bytes' area'
-      → (numberIn returned ≡ 0) ↔ MayTake placeCount events place
-  session-take-exactly r =
-      let a = answered r in
-      zero-done (a .reply) (a .packed) (take-answer (a .gave)) (take-exactly (session-history s .history) (a .gave))
-
-  module _ {action returned : ℕ} {bytes' area' : List ℕ} (r : ActionReturns bytes area action returned bytes' area') where
+  module _ {action returned : ℕ} {bytes' area' : List ℕ} (r : CallReturns bytes area (act action) returned bytes' area') where
     -- what was answered, by the number
-    back : actionReply returned ≡ answered r .reply
-    back = ap actionReply (answered r .packed) ∙ act-answer (answered r .gave .acts)
+    back : replyIn (act action) returned ≡ answered r .reply
+    back = ap (replyIn (act action)) (answered r .packed) ∙ answer-back (answered r .gave)
 
     zero-permitted : numberIn returned ≡ 0 → answered r .reply ≡ permitted (valueIn returned)
-    zero-permitted n = sym back ∙ zero-good (permitted (valueIn returned)) (numberIn returned) (valueIn returned) n
+    zero-permitted n = sym back ∙ ap (λ (k : ℕ). replyBy (permitted (valueIn returned)) k (valueIn returned)) n
 
     permitted-zero : IsPermitted (answered r .reply) → numberIn returned ≡ 0
     permitted-zero p = ap numberIn (answered r .packed ∙ ap packedReply (p .1)) ∙ number-of 0 (p .0) (omega arith)
@@ -72,19 +62,19 @@ module _ {events : List Event} {bytes area : List ℕ} (s : Session events bytes
     pub zero-exactly : {M : Type 0} → IsPermitted (answered r .reply) ↔ M → (numberIn returned ≡ 0) ↔ M
     zero-exactly e = (λ n. e .0 (valueIn returned, zero-permitted n), λ m. permitted-zero (e .1 m))
 
-    pub zero-acts : numberIn returned ≡ 0 → Acts (boardOf bytes) area action (permitted (valueIn returned)) (answered r .next)
-    zero-acts n = subst (λ (x : Reply). Acts (boardOf bytes) area action x (answered r .next)) (zero-permitted n) (answered r .gave .acts)
+    pub zero-acts : numberIn returned ≡ 0 → Calls (boardOf bytes) area (act action) (permitted (valueIn returned)) (answered r .next) (answered r .left)
+    zero-acts n = subst (λ (x : Reply). Calls (boardOf bytes) area (act action) x (answered r .next) (answered r .left)) (zero-permitted n) (answered r .gave)
 
     -- An action of the list is permitted, 0 returned, exactly when no enforced rule is violated by the actions permitted since that rule was put
     -- on, followed by this one.
     pub session-permit-exactly : Listed events action → (numberIn returned ≡ 0) ↔ NoneViolated events action
-    session-permit-exactly l = zero-exactly (permit-exactly (session-history s .history) l (answered r .gave .acts))
+    session-permit-exactly l = zero-exactly (permit-exactly (session-history s .history) l (answered r .gave))
 
     -- Otherwise it is denied, 255 returned, with the lowest place whose enforced rule is violated as the value.
     pub session-deny-otherwise : Listed events action → (NoneViolated events action → ⊥)
         → (numberIn returned ≡ 255) × Violated events action (valueIn returned) × ((i : ℕ) → i < valueIn returned → Violated events action i → ⊥)
     session-deny-otherwise l n =
-        let (place, e, v, lowest) = deny-otherwise (session-history s .history) l (answered r .gave .acts) n in
+        let (place, e, v, lowest) = deny-otherwise (session-history s .history) l (answered r .gave) n in
         let number : numberIn returned ≡ 255 = ap numberIn (answered r .packed ∙ ap packedReply e) ∙ number-of 255 place (omega arith) in
         let same : valueIn returned ≡ place = same-place (sym (ap (λ (k : ℕ). replyBy (permitted (valueIn returned)) k (valueIn returned)) number) ∙ back ∙ e) in
         (number, subst (Violated events action) (sym same) v, subst (λ (k : ℕ). (i : ℕ) → i < k → Violated events action i → ⊥) (sym same) lowest)

@@ -12,7 +12,10 @@ use Rattle.table.specs.Answer.{Answer, accepted, refused}
 use Rattle.making.specs.Making.{short, makes as made}
 use Rattle.compiler.specs.Calling.{CompilesInto}
 use Rattle.compiler_laws.proofs.Calls.{table-in-output}
-use Rattle.histories.specs.History.{Event, rule, onPlace, Listed, Member}
+use Rattle.runs.specs.Events.{Event, rule, onPlace}
+use Rattle.runs.specs.Verdicts.{Listed}
+use Rattle.base.specs.Sets.{Member}
+use Rattle.view.specs.Steps.{act}
 use Rattle.grammar.specs.Words.{wordsOf}
 use Rattle.grammar.specs.Grammar.{Rule, Reads}
 use Rattle.grammar.specs.declared.Category.the-variants.{Text}
@@ -22,7 +25,7 @@ use Rattle.text_laws.specs.Boards.{FromText, EnforcedTexts, NoneTextViolated, F
 use Rattle.text_laws.proofs.Exactly.{sheet-exactly}
 use Rattle.text_laws.proofs.Compiled.{text-refused-by}
 use Rattle.text_laws.proofs.Boards.{text-on-board, text-reported-on-board}
-use Rattle.lemondarts.specs.Exports.{ActionReturns}
+use Rattle.lemondarts.specs.Exports.{CallReturns}
 use Rattle.lemondarts.specs.Session.{numberIn, valueIn, Session}
 use Rattle.lemondarts.specs.Compiling.{CompileReturns}
 use Rattle.lemondarts.specs.Texts.{TextReturns}
@@ -85,11 +88,11 @@ text-makes-table r read c compiled =
     makes call (few .within .reads) (r .narrow) _ (c .answer) (c .compiles) says compiled
 
 module _ {events : List Event} {bytes area : List ℕ} (s : Session events bytes area) {action returned : ℕ} {bytes' area' : List ℕ}
-    (r : ActionReturns bytes area action returned bytes' area') where
+    (r : CallReturns bytes area (act action) returned bytes' area') where
   -- Where each enforced rule on is compiled from a text, an action of the list is permitted, 0 returned, exactly when no enforced text's policy is
   -- violated by the actions permitted since its rule was put on, followed by this one.
   pub session-text-permit : (texts : EnforcedTexts events) → Listed events action → (numberIn returned ≡ 0) ↔ NoneTextViolated events texts action
-  session-text-permit texts l = zero-exactly s r (text-on-board (session-history s .history) texts l (answered s r .gave .acts))
+  session-text-permit texts l = zero-exactly s r (text-on-board (session-history s .history) texts l (answered s r .gave))
 
   -- A watched rule that is compiled from a text is reported, its place in the value of a 0 returned, at exactly the permitted action that first
   -- satisfies the text's policy.

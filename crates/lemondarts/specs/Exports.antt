@@ -6,10 +6,11 @@ use mathlib.Core.List.{List}
 use Prim.Native.Nat.{ℕ, _≤_}
 use lib.ListN.{length}
 use Rattle.table.specs.Answer.{Answer, Loads}
-use Rattle.board.specs.Calls.{Reply, input, Makes, PutsOn, TakesOff, Acts}
-use Rattle.board.specs.declared.Board.{Board}
+use Rattle.places.specs.declared.Board.{Board}
+use Rattle.view.specs.Steps.{Call, Reply, input, changes}
+use Rattle.view.specs.Calls.{Makes, Calls}
 use Rattle.records.specs.Record.{recordLength, boardOf, written}
-use Rattle.answers.specs.Numbers.{packedReply, packedAnswer, changes}
+use Rattle.answers.specs.Numbers.{packedReply, packedAnswer}
 
 -- The loader: the number of what it answers.
 pub record LoadReturns (table : List ℕ) (returned : ℕ) : Type 0 where
@@ -28,19 +29,10 @@ pub data Returns (call : Reply → Board → List ℕ → Type 0) (bytes area : 
   called : recordLength ≤ length bytes → (reply : Reply) (next : Board) (left : List ℕ) → call reply next left
       → Returns call bytes area (packedReply reply) (recordAfter bytes reply next) left
 
--- The four calls. The old record is not read by the first; the last only reads the area.
+-- A new board: the old record is not read.
 abbrev pub NewBoardReturns : (bytes area : List ℕ) → ℕ → List ℕ → List ℕ → Type 0
 NewBoardReturns bytes area = Returns (Makes area) bytes area
 
-abbrev pub PutOnReturns : (bytes area : List ℕ) (place : ℕ) (table : List ℕ) → ℕ → List ℕ → List ℕ → Type 0
-PutOnReturns bytes area place table = Returns (PutsOn (boardOf bytes) area place table) bytes area
-
-abbrev pub TakeOffReturns : (bytes area : List ℕ) (place : ℕ) → ℕ → List ℕ → List ℕ → Type 0
-TakeOffReturns bytes area place = Returns (TakesOff (boardOf bytes) area place) bytes area
-
-pub record ActsOn (board : Board) (area : List ℕ) (action : ℕ) (reply : Reply) (next : Board) (left : List ℕ) : Type 0 where
-  pub acts : Acts board area action reply next
-  pub unchanged : left ≡ area
-
-abbrev pub ActionReturns : (bytes area : List ℕ) (action : ℕ) → ℕ → List ℕ → List ℕ → Type 0
-ActionReturns bytes area action = Returns (ActsOn (boardOf bytes) area action) bytes area
+-- A call on the board of a record.
+abbrev pub CallReturns : (bytes area : List ℕ) → Call → ℕ → List ℕ → List ℕ → Type 0
+CallReturns bytes area call = Returns (Calls (boardOf bytes) area call) bytes area

@@ -1,11 +1,10 @@
 -- A table that C makes of a rule text: it reads the text, and compiles the sheet that this leaves.
 -- Assumes nothing.
 use mathlib.Core.Path.{_≡_}
-use mathlib.Core.Bool.{true}
 use mathlib.Core.List.{List, [], _∷_}
 use Prim.Native.Nat.{ℕ, _+_, _*_}
 use lib.ListN.{take}
-use Rattle.histories.specs.History.{Event, put-on, take-off, act, isDone}
+use Rattle.runs.specs.Events.{Event, put, effectAt}
 use Rattle.text_laws.specs.Boards.{FromText}
 use Rattle.base.specs.Fields.{fieldIn}
 
@@ -22,6 +21,4 @@ pub record TableFrom (text actions table : List ℕ) : Type 0 where
 -- Each table that the events put on comes from a text.
 abbrev pub PutTexts : List Event → Type 0
 PutTexts [] = Unit {0}
-PutTexts (put-on place table reply ∷ events) = (isDone reply ≡ true → FromText table) × PutTexts events
-PutTexts (take-off place reply ∷ events) = PutTexts events
-PutTexts (act action reply ∷ events) = PutTexts events
+PutTexts (e ∷ events) = ((i : ℕ) (table : List ℕ) → effectAt e i ≡ put table → FromText table) × PutTexts events

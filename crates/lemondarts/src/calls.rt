@@ -5,7 +5,7 @@ use answers::load_number;
 use answers::made_answer;
 use answers::put_answer;
 use answers::take_answer;
-use board::Board;
+use places::Board;
 use records::RECORD;
 use records::read_board;
 use records::write_board;
@@ -14,7 +14,8 @@ ghost use mathlib.Core.Bool.{cond};
 ghost use Prim.Native.Nat.{_≤_};
 ghost use lib.ListN.{length};
 ghost use Rattle.records.specs.Record.{recordLength, written};
-ghost use Rattle.lemondarts.specs.Exports.{LoadReturns, NewBoardReturns, PutOnReturns, TakeOffReturns, ActionReturns};
+ghost use Rattle.view.specs.Steps.{put-on, take-off, act};
+ghost use Rattle.lemondarts.specs.Exports.{LoadReturns, NewBoardReturns, CallReturns};
 
 // Writes the board back where the answer changes it, and returns the answer's number.
 fn write_back(bytes: &mut [u8], next: Board, answer: NumberedReply) -> u64
@@ -57,7 +58,7 @@ pub extern "C" fn lemondarts_put_on(
     place: usize,
     table: &[u8],
 ) -> u64
-    ensures { λ r. ⌜ PutOnReturns (now (bytes .entry)) (now (area .entry)) place (now (table .entry)) r (now (bytes .exit)) (now (area .exit)) ⌝ }
+    ensures { λ r. ⌜ CallReturns (now (bytes .entry)) (now (area .entry)) (put-on place (now (table .entry))) r (now (bytes .exit)) (now (area .exit)) ⌝ }
 {
     if bytes.len() < RECORD {
         return 14;
@@ -71,7 +72,7 @@ pub extern "C" fn lemondarts_put_on(
 // Takes a table off its place.
 #[no_mangle]
 pub extern "C" fn lemondarts_take_off(bytes: &mut [u8], area: &mut [u8], place: usize) -> u64
-    ensures { λ r. ⌜ TakeOffReturns (now (bytes .entry)) (now (area .entry)) place r (now (bytes .exit)) (now (area .exit)) ⌝ }
+    ensures { λ r. ⌜ CallReturns (now (bytes .entry)) (now (area .entry)) (take-off place) r (now (bytes .exit)) (now (area .exit)) ⌝ }
 {
     if bytes.len() < RECORD {
         return 14;
@@ -85,7 +86,7 @@ pub extern "C" fn lemondarts_take_off(bytes: &mut [u8], area: &mut [u8], place: 
 // Permits or denies an action. The area is only read.
 #[no_mangle]
 pub extern "C" fn lemondarts_action(bytes: &mut [u8], area: &[u8], action: usize) -> u64
-    ensures { λ r. ⌜ ActionReturns (now (bytes .entry)) (now (area .entry)) action r (now (bytes .exit)) (now (area .entry)) ⌝ }
+    ensures { λ r. ⌜ CallReturns (now (bytes .entry)) (now (area .entry)) (act action) r (now (bytes .exit)) (now (area .entry)) ⌝ }
 {
     if bytes.len() < RECORD {
         return 14;

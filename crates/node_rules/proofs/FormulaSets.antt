@@ -1,14 +1,16 @@
 -- The set of a formula node of a sound sheet, worked out from those of its parts, has the actions that satisfy the formula.
 -- Assumes nothing.
 use mathlib.Core.Path.{_≡_, refl, sym, ap, subst, _∙_}
-use mathlib.Core.Bool.{Bool, true, false}
+use mathlib.Core.Bool.{Bool, false}
 use mathlib.Core.List.{List}
 use Prim.Native.Nat.{ℕ, _≤_, _<_}
-use native.Mathlib.Decide.{decLt}
 use native.Mathlib.Omega.{arith}
+use Rattle.base.specs.Sets.{bit, setBelow}
+use Rattle.base.proofs.Bits.{member-bit}
 use Rattle.base.proofs.Filled.{filled-at}
+use Rattle.base.proofs.Sets.{set-width, in-set, member-test, no-members, set-every, set-others, set-and, set-or}
 use Rattle.trace.specs.declared.Mode.{Mode}
-use Rattle.policy.specs.Formula.{Formula as ActionFormula, bit, holds}
+use Rattle.policy.specs.Formula.{Formula as ActionFormula, holds}
 use Rattle.syntax.specs.Nodes.{nodeOf, propositionsOf}
 use Rattle.syntax.specs.Types.{typeAt}
 use Rattle.syntax.specs.Meaning.{Meaning, formula, policy, asFormula, formulaAt, meaningOf, meanings}
@@ -23,9 +25,8 @@ use Rattle.typing.proofs.Meanings.{nodeMeaning, meaning-of, meaning-stays, node
 use Rattle.typing.proofs.Sound.{typed-formula}
 use Rattle.syntax.proofs.NodeTypes.{EachPart, FormulaBefore, PolicyBefore}
 use Rattle.node_rules.specs.Nodes.{satisfiedBy}
-use Rattle.node_rules.specs.ActionSets.{setBelow, setAt}
 use Rattle.node_rules.specs.FormulaSets.{satisfying, SatisfyingExactly, ofFormula, firstSets, setFrom}
-use Rattle.node_rules.proofs.ActionSets.{set-width, in-set, above-set, set-every, set-none, set-others, set-and, set-or}
+use Rattle.node_rules.specs.Lowering.{setAt}
 
 -- the one law between 'the formula holds' and 'the bit is set'
 pub satisfying-bit : (sheet : Sheet) (n a : ℕ) → a < sheet .actions → bit (satisfying sheet n) a ≡ satisfiedBy sheet n a
@@ -34,14 +35,10 @@ satisfying-bit sheet n a h = in-set (satisfiedBy sheet n) (sheet .actions) a h
 pub satisfying-exactly : (sheet : Sheet) (n : ℕ) → SatisfyingExactly sheet n
 satisfying-exactly sheet n =
     record {
-      sound = λ a e. by a e (decLt a (sheet .actions));
+      sound = λ a e. member-test (satisfiedBy sheet n) (sheet .actions) a (member-bit (satisfying sheet n) a .1 e);
       complete = λ a h e. satisfying-bit sheet n a h ∙ e;
       width = set-width (satisfiedBy sheet n) (sheet .actions);
     }
-  where
-    by : (a : ℕ) → bit (satisfying sheet n) a ≡ true → Dec (a < sheet .actions) → (a < sheet .actions) × (satisfiedBy sheet n a ≡ true)
-    by a e (yes h) = (h, sym (satisfying-bit sheet n a h) ∙ e)
-    by a e (no h) = absurd (let d : false ≡ true = sym (above-set (satisfiedBy sheet n) (sheet .actions) a (omega arith)) ∙ e in let z : _≡_ {A = ℕ} 0 1 = cc in omega arith)
 
 module _ (sheet : Sheet) (few : sheet .actions ≤ 16) where
   -- the set of a formula
@@ -65,7 +62,7 @@ module _ (sheet : Sheet) (few : sheet .actions ≤ 16) where
     from-parts : (node : Node) → EachPart (FormulaBefore types n) (PolicyBefore types n) node
         → SetFor (meaningOf before node) (setFrom (sheet .propositions) (sheet .actions) sets node)
     from-parts True h = set-every (sheet .actions)
-    from-parts False h = set-none (sheet .actions)
+    from-parts False h = sym (no-members (λ a. false) (sheet .actions) (λ i h. refl))
     from-parts (Proposition p) h = refl
     from-parts (Negation a) h = rw (part a h) (set-others (holding a) (sheet .actions) few)
     from-parts (Conjunction a b) h = rw (part a (h .0), part b (h .1)) (set-and (holding a) (sheet .actions) (holding b))

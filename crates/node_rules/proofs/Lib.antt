@@ -1,4 +1,3 @@
-pub mod ActionSets
 pub mod Facts
 pub mod FormulaSets
 pub mod NodeRules

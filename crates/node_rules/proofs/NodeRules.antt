@@ -6,13 +6,15 @@ use mathlib.Core.List.{List}
 use Prim.Native.Nat.{ℕ, _≤_, _<_}
 use native.Mathlib.Omega.{arith}
 use lib.ListN.{getD}
+use Rattle.base.specs.Sets.{bit, othersBelow}
 use Rattle.base.proofs.Filled.{filled-at}
+use Rattle.base.proofs.Sets.{in-set, set-others}
 use Rattle.trace.specs.declared.Mode.{Mode}
 use Rattle.trace.specs.declared.Mode.the-variants.{Watched, Enforced}
 use Rattle.policy.specs.declared.Bound.{Bound}
 use Rattle.policy.specs.declared.Typing.{Typing}
 use Rattle.policy.specs.declared.Typing.the-variants.{Typed, Untyped}
-use Rattle.policy.specs.Formula.{always-false, bit, holds}
+use Rattle.policy.specs.Formula.{always-false, holds}
 use Rattle.policy.specs.Parts.{AllParts}
 use Rattle.policy.specs.Policy.{Policy as APolicy}
 use Rattle.policy.specs.Rule.{Rule, opening, onParts, onWatched, ruleOf}
@@ -40,11 +42,9 @@ use Rattle.rules.specs.declared.NodeRule.{NodeRule}
 use Rattle.rules.specs.declared.NodeRule.the-variants.{Opening, Counting, Same, Both, Either, Copied, Until, Then, Timed, Filtered}
 use Rattle.rules.specs.declared.RuleAt.{RuleAt}
 use Rattle.node_rules.specs.Nodes.{satisfiedBy, ruleBy, nodeRule}
-use Rattle.node_rules.specs.ActionSets.{others, setAt}
 use Rattle.node_rules.specs.FormulaSets.{satisfying, setsOf}
-use Rattle.node_rules.specs.Lowering.{SameRule, opens, filters, equal, byMode, lowered, ofPolicy}
+use Rattle.node_rules.specs.Lowering.{SameRule, opens, filters, equal, byMode, lowered, ofPolicy, setAt}
 use Rattle.node_rules.specs.SheetRules.{sheetRules}
-use Rattle.node_rules.proofs.ActionSets.{in-set, set-others}
 use Rattle.node_rules.proofs.FormulaSets.{satisfying-bit, set-listed}
 
 -- what node n is lowered to goes by its type
@@ -128,9 +128,9 @@ module _ (sheet : Sheet) (Q : ℕ → Type 0) where
     hits : (i : ℕ) → FormulaBefore (typeAt types) n i → (x : ℕ) → x < sheet .actions → bit (set i) x ≡ satisfiedBy sheet i x
     hits i p x h = ap (λ (s : ℕ). bit s x) (right i p) ∙ satisfying-bit sheet i x h
 
-    misses : (i : ℕ) → FormulaBefore (typeAt types) n i → (x : ℕ) → x < sheet .actions → bit (others (sheet .actions) (set i)) x ≡ not (satisfiedBy sheet i x)
+    misses : (i : ℕ) → FormulaBefore (typeAt types) n i → (x : ℕ) → x < sheet .actions → bit (othersBelow (sheet .actions) (set i)) x ≡ not (satisfiedBy sheet i x)
     misses i p x h =
-        ap (λ (s : ℕ). bit s x) (ap (others (sheet .actions)) (right i p) ∙ set-others (satisfiedBy sheet i) (sheet .actions) (sound .formed .few-actions))
+        ap (λ (s : ℕ). bit s x) (ap (othersBelow (sheet .actions)) (right i p) ∙ set-others (satisfiedBy sheet i) (sheet .actions) (sound .formed .few-actions))
         ∙ in-set (λ y. not (satisfiedBy sheet i y)) (sheet .actions) x h
 
     typed : (i : ℕ) (p : PolicyBefore (typeAt types) n i) → typeOf (nodePolicy sheet i) ≡ Typed (p .mode) (p .bound)
@@ -153,7 +153,7 @@ module _ (sheet : Sheet) (Q : ℕ → Type 0) where
     lowered-right m k (Disjunction a b) h g e = refl
     lowered-right m k (Now a) h g e = rw (means a (h .before)) (opened (satisfiedBy sheet a) (set a) (hits a h))
     lowered-right m k (Holds a) h g e =
-        rw (means a (h .before)) (opened (λ x. not (satisfiedBy sheet a x)) (others (sheet .actions) (set a)) (misses a h))
+        rw (means a (h .before)) (opened (λ x. not (satisfiedBy sheet a x)) (othersBelow (sheet .actions) (set a)) (misses a h))
     lowered-right m l (Count k) h g e = plain (Counting k) tt g
     lowered-right m k (Not a) h g e = rw (means a (h .before)) (plain (Same a) (part a h) tt)
     lowered-right m k (And a b) h g e =

@@ -7,7 +7,8 @@ use Prim.Native.Nat.{ℕ, _^_, _<_}
 use lib.Bits.{bitAnd, bitOr}
 use lib.ListN.{getD}
 use Rattle.base.specs.Build.{filled}
-use Rattle.policy.specs.Formula.{bit, holds}
+use Rattle.base.specs.Sets.{bit, setBelow, everyBelow, othersBelow}
+use Rattle.policy.specs.Formula.{holds}
 use Rattle.syntax.specs.Nodes.{propositionsOf}
 use Rattle.syntax.specs.Types.{typeAt}
 use Rattle.syntax.specs.declared.ListedNode.{ListedNode}
@@ -17,7 +18,6 @@ use Rattle.syntax.specs.declared.NodeType.{NodeType}
 use Rattle.syntax.specs.declared.NodeType.the-variants.{Unused, Formula, Policy}
 use Rattle.syntax.specs.declared.Sheet.{Sheet}
 use Rattle.syntax.specs.declared.TypedNode.{TypedNode}
-use Rattle.node_rules.specs.ActionSets.{setBelow, everyAction, others}
 use Rattle.node_rules.specs.Nodes.{nodeFormula, satisfiedBy}
 
 -- The set of formula node n: the actions of the sheet that satisfy the formula.
@@ -55,10 +55,10 @@ propositionSet propositions actions p = setBelow (λ a. bit (getD propositions a
 -- The set of a formula node from those of its parts: one look at each action for a proposition, one operation on all of them for the rest. A policy
 -- has none; any will do for it.
 abbrev pub setFrom : (propositions : List ℕ) (actions : ℕ) → (ℕ → ℕ) → Node → ℕ
-setFrom propositions actions sets True = everyAction actions
+setFrom propositions actions sets True = everyBelow actions
 setFrom propositions actions sets False = 0
 setFrom propositions actions sets (Proposition p) = propositionSet propositions actions p
-setFrom propositions actions sets (Negation a) = others actions (sets a)
+setFrom propositions actions sets (Negation a) = othersBelow actions (sets a)
 setFrom propositions actions sets (Conjunction a b) = bitAnd (sets a) (sets b)
 setFrom propositions actions sets (Disjunction a b) = bitOr (sets a) (sets b)
 setFrom propositions actions sets (Now a) = 0

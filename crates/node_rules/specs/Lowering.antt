@@ -5,7 +5,9 @@ use mathlib.Core.Path.{_≡_}
 use mathlib.Core.Bool.{Bool}
 use mathlib.Core.List.{List}
 use Prim.Native.Nat.{ℕ, _<_}
+use lib.ListN.{getD}
 use Rattle.base.specs.Build.{filled}
+use Rattle.base.specs.Sets.{othersBelow}
 use Rattle.trace.specs.declared.Mode.{Mode}
 use Rattle.trace.specs.declared.Mode.the-variants.{Enforced, Watched}
 use Rattle.policy.specs.Rule.{Rule, opening, filtered}
@@ -22,7 +24,6 @@ use Rattle.rules.specs.declared.NodeRule.the-variants.{Opening, Counting, Same,
 use Rattle.rules.specs.declared.Lowered.{Lowered}
 use Rattle.rules.specs.declared.Lowered.the-variants.{AsRule, NoRule}
 use Rattle.rules.specs.declared.RuleAt.{RuleAt}
-use Rattle.node_rules.specs.ActionSets.{others, setAt}
 
 -- And and Or go by their mode, which is that of their parts.
 abbrev pub byMode : Mode → NodeRule → NodeRule → NodeRule
@@ -38,7 +39,7 @@ lowered mode actions sets (Negation a) = NoRule
 lowered mode actions sets (Conjunction a b) = NoRule
 lowered mode actions sets (Disjunction a b) = NoRule
 lowered mode actions sets (Now a) = AsRule (Opening (sets a))
-lowered mode actions sets (Holds a) = AsRule (Opening (others actions (sets a)))
+lowered mode actions sets (Holds a) = AsRule (Opening (othersBelow actions (sets a)))
 lowered mode actions sets (Count k) = AsRule (Counting k)
 lowered mode actions sets (Not a) = AsRule (Same a)
 lowered mode actions sets (And a b) = AsRule (byMode mode (Both a b) (Either a b))
@@ -57,6 +58,10 @@ abbrev pub ofPolicy : NodeType → (Mode → Lowered) → Lowered
 ofPolicy Unused rule = NoRule
 ofPolicy Formula rule = NoRule
 ofPolicy (Policy m k) rule = rule m
+
+-- The set of node i in a list.
+abbrev pub setAt : List ℕ → ℕ → ℕ
+setAt sets i = getD sets i 0
 
 -- The rules of the first n nodes; behind them none.
 abbrev pub rulesOf : List ListedNode → List TypedNode → (sets : List ℕ) → (actions n : ℕ) → List RuleAt

@@ -12,8 +12,7 @@ use trace::Mode;
 ghost use mathlib.Core.Path.{_≡_};
 ghost use Prim.Native.Nat.{_≤_};
 ghost use lib.ListN.{length};
-ghost use Rattle.node_rules.specs.ActionSets.{setAt};
-ghost use Rattle.node_rules.specs.Lowering.{byMode, lowered, rulesOf};
+ghost use Rattle.node_rules.specs.Lowering.{byMode, lowered, rulesOf, setAt};
 
 // The rule of an And or an Or, by its mode.
 fn by_mode(mode: Mode, watched: NodeRule, enforced: NodeRule) -> NodeRule

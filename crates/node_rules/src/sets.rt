@@ -6,11 +6,12 @@ use syntax::TypedNode;
 ghost use mathlib.Core.Path.{_≡_};
 ghost use Prim.Native.Nat.{_^_, _≤_, _<_};
 ghost use lib.ListN.{length};
+ghost use Rattle.base.specs.Sets.{everyBelow, othersBelow};
 ghost use Rattle.trace.specs.declared.Mode.{Mode};
 ghost use Rattle.syntax.specs.Formed.{ArgumentFits};
 ghost use Rattle.typing.specs.Typed.{SoundSheet};
-ghost use Rattle.node_rules.specs.ActionSets.{everyAction, setAt};
 ghost use Rattle.node_rules.specs.FormulaSets.{propositionSet, setFrom, sheetOf, setsOf};
+ghost use Rattle.node_rules.specs.Lowering.{setAt};
 
 // The set of one action.
 fn only(action: usize) -> u16
@@ -23,7 +24,7 @@ fn only(action: usize) -> u16
 // The set of all actions.
 fn every_action(actions: usize) -> u16
     requires { ⌜ actions ≤ 16 ⌝ }
-    ensures { λ r. ⌜ r ≡ everyAction actions ⌝ }
+    ensures { λ r. ⌜ r ≡ everyBelow actions ⌝ }
 {
     ((1u32 << actions) - 1) as u16
 }
@@ -31,7 +32,7 @@ fn every_action(actions: usize) -> u16
 // The actions that are not in a set.
 pub fn others(actions: usize, set: u16) -> u16
     requires { ⌜ actions ≤ 16 ⌝ }
-    ensures { λ r. ⌜ r ≡ Rattle.node_rules.specs.ActionSets.others actions set ⌝ }
+    ensures { λ r. ⌜ r ≡ othersBelow actions set ⌝ }
 {
     every_action(actions) & (65535 - set)
 }

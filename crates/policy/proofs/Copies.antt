@@ -8,16 +8,17 @@ use native.Mathlib.Decide.{ℕ-discrete}
 use native.Mathlib.Omega.{arith}
 use lib.Seq.{append-snoc}
 use borrow.Author.Tests.{eq-eqb, ne-eqb}
+use Rattle.base.specs.Sets.{bit}
+use Rattle.base.proofs.Bits.{bit-empty, bits-below}
 use Rattle.trace.specs.Trace.{Move, trip, go, Step, after, run, tripped}
 use Rattle.trace.proofs.Laws.{not-both, run-append}
-use Rattle.policy.specs.Formula.{bit}
 use Rattle.policy.specs.Words.{someSuffix}
 use Rattle.policy.specs.Rule.{copied}
 use Rattle.policy.specs.Value.{Part, partTrips, placeOf, rowOf, insert, copiesOf, join, moveBelow}
 use Rattle.policy.specs.Closed.{Below, Closed, answer}
 use Rattle.policy.specs.Right.{Right}
 use Rattle.policy.proofs.Lasting.{part-lasting, rule-lasting}
-use Rattle.policy.proofs.Sets.{bit-empty, bit-insert, bits-below, insert-self, insert-comm}
+use Rattle.policy.proofs.Sets.{bit-insert, insert-self, insert-comm}
 
 -- a copy joined to the others' answer: every row is kept
 join-answer : (m : Move ℕ) (b : Bool) (set : ℕ) → join m (answer b set) ≡ answer (tripped m || b) (insert (rowOf m) set)

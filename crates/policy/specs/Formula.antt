@@ -1,12 +1,8 @@
 -- Action formulas (docs/FORMATS.md, "Action formulas"; Xu and Fong, definition 5) over the 16 propositions that an action may satisfy.
 -- Assumes nothing.
 use mathlib.Core.Bool.{Bool, true, false, not, _&&_, _||_}
-use Prim.Native.Nat.{ℕ, _/_, _%_, _^_}
-use lib.Dec.{eqb}
-
--- An action's propositions are a set of bits: bit p of the number is set when the action satisfies proposition p.
-abbrev pub bit : ℕ → ℕ → Bool
-bit s p = eqb (s / 2 ^ p % 2) 1
+use Prim.Native.Nat.{ℕ}
+use Rattle.base.specs.Sets.{bit}
 
 pub data Formula : Type 0 where
   always-true : Formula
@@ -16,7 +12,7 @@ pub data Formula : Type 0 where
   conjunction : Formula → Formula → Formula
   disjunction : Formula → Formula → Formula
 
--- Whether an action that satisfies the propositions of the set satisfies the formula.
+-- Whether an action satisfies the formula. Its propositions are a set of bits: bit p of the number is set when it satisfies proposition p.
 abbrev pub holds : Formula → ℕ → Bool
 holds always-true s = true
 holds always-false s = false

@@ -9,8 +9,8 @@ use Prim.Native.Nat.{ℕ, zero, suc, _+_, _^_}
 use lib.Dec.{leb}
 use lib.Bits.{bitOr}
 use lib.ListN.{length, drop}
+use Rattle.base.specs.Sets.{bit}
 use Rattle.trace.specs.Trace.{Move, trip, go, Step, after, run, tripped, trips}
-use Rattle.policy.specs.Formula.{bit}
 use Rattle.policy.specs.Words.{Property, first, without}
 use Rattle.policy.specs.Rule.{Rule, opening, counting, same, both, either, copied, until, then, timed, filtered}
 

@@ -6,10 +6,9 @@ use mathlib.Core.Logic.{_↔_, _⊎_, inl, inr}
 use Prim.Native.Nat.{ℕ, _^_, _-_, _≤_, _<_}
 use native.Mathlib.Omega.{arith}
 use lib.Bits.{bitOr}
-use borrow.Author.Tests.{eqb-true, eq-eqb}
-use Rattle.base.proofs.Truths.{not-true, or-true, either-true}
-use Rattle.policy.specs.Formula.{bit}
-use Rattle.policy.proofs.Sets.{bit-empty, bit-power, bit-or}
+use Rattle.base.specs.Sets.{bit}
+use Rattle.base.proofs.Bits.{bit-empty, power-exactly, or-exactly}
+use Rattle.base.proofs.Truths.{not-true}
 use Rattle.syntax.specs.Formed.{PartsBelow, Formed}
 use Rattle.syntax.specs.Nodes.{nodeOf}
 use Rattle.syntax.specs.declared.Node.{Node}
@@ -24,25 +23,12 @@ use Rattle.reached.specs.declared.Through.the-variants.{EveryKind, AndAl
 use Rattle.reached.proofs.ReachedSets.{reached-map, reached-no-later, reached-set}
 
 -- the bits of parts are the parts
-one-bit : (a m : ℕ) → (bit (2 ^ a) m ≡ true) ↔ (m ≡ a)
-one-bit a m = (λ e. eqb-true m a (sym (bit-power a m) ∙ e), λ e. bit-power a m ∙ eq-eqb m a e)
-
-either-bit : (s t m : ℕ) {P Q : Type 0} → (bit s m ≡ true) ↔ P → (bit t m ≡ true) ↔ Q → (bit (bitOr s t) m ≡ true) ↔ (P ⊎ Q)
-either-bit s t m {P} {Q} p q = (to, from)
-  where
-    to : bit (bitOr s t) m ≡ true → P ⊎ Q
-    to e = elim (or-true (bit s m) (bit t m) (sym (bit-or s t m) ∙ e)) [ inl h ↦ inl (p .0 h) | inr h ↦ inr (q .0 h) ]
-
-    from : P ⊎ Q → bit (bitOr s t) m ≡ true
-    from (inl h) = bit-or s t m ∙ either-true (bit s m) (bit t m) (inl (p .1 h))
-    from (inr h) = bit-or s t m ∙ either-true (bit s m) (bit t m) (inr (q .1 h))
-
 in-set : (parts : Parts) (m : ℕ) → (bit (setOfParts parts) m ≡ true) ↔ InParts parts m
 in-set NoPart m = (λ e. not-true (sym (bit-empty m) ∙ e), λ h. absurd h)
-in-set (OnePart a) m = one-bit a m
-in-set (TwoParts a b) m = either-bit (2 ^ a) (2 ^ b) m (one-bit a m) (one-bit b m)
+in-set (OnePart a) m = power-exactly a m
+in-set (TwoParts a b) m = or-exactly (2 ^ a) (2 ^ b) m (power-exactly a m) (power-exactly b m)
 in-set (ThreeParts a b c) m =
-    either-bit (2 ^ a) (bitOr (2 ^ b) (2 ^ c)) m (one-bit a m) (either-bit (2 ^ b) (2 ^ c) m (one-bit b m) (one-bit c m))
+    or-exactly (2 ^ a) (bitOr (2 ^ b) (2 ^ c)) m (power-exactly a m) (or-exactly (2 ^ b) (2 ^ c) m (power-exactly b m) (power-exactly c m))
 
 -- parts stand before their node
 one-below : {n a m : ℕ} → a < n → m ≡ a → m < n

@@ -7,10 +7,9 @@ use Prim.Native.Nat.{ℕ, zero, suc, _^_, _≤_, _<_}
 use native.Mathlib.Decide.{decLt}
 use native.Mathlib.Omega.{arith}
 use lib.Bits.{bitOr}
-use borrow.Author.Tests.{eqb-true, eq-eqb}
+use Rattle.base.specs.Sets.{bit}
+use Rattle.base.proofs.Bits.{bit-or, power-exactly}
 use Rattle.base.proofs.Truths.{not-true, or-true, either-true}
-use Rattle.policy.specs.Formula.{bit}
-use Rattle.policy.proofs.Sets.{bit-power, bit-or}
 use Rattle.reached.specs.Reached.{Reached, itself, onward, spread, reachedSet, Earlier}
 
 -- more parts reach more
@@ -90,7 +89,7 @@ module _ (parts : ℕ → ℕ) where
 
     -- Bit m of the set is set exactly where m is reached.
     in-set : {m : ℕ} → Reached Listed from m → bit (reachedSet parts from) m ≡ true
-    in-set itself = spread-keeps (suc from) (2 ^ from) from (bit-power from from ∙ eq-eqb from from refl)
+    in-set itself = spread-keeps (suc from) (2 ^ from) from (power-exactly from from .1 refl)
     in-set (onward {n} {m} r p) =
         let h = reached-no-later earlier r in
         spread-closed (suc from) (2 ^ from) n m (omega arith) (omega arith) (in-set r) p
@@ -99,4 +98,4 @@ module _ (parts : ℕ → ℕ) where
     reached-set m = (spread-reached (λ n m r p. onward r p) (suc from) (2 ^ from) (λ m e. first m e) m, in-set)
       where
         first : (m : ℕ) → bit (2 ^ from) m ≡ true → Reached Listed from m
-        first m e = subst (Reached Listed from) (sym (eqb-true m from (sym (bit-power from m) ∙ e))) itself
+        first m e = subst (Reached Listed from) (sym (power-exactly from m .0 e)) itself

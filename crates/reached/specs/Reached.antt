@@ -5,7 +5,7 @@ use mathlib.Core.Path.{_≡_}
 use mathlib.Core.Bool.{true, cond}
 use Prim.Native.Nat.{ℕ, zero, suc, _^_, _≤_, _<_}
 use lib.Bits.{bitOr}
-use Rattle.policy.specs.Formula.{bit}
+use Rattle.base.specs.Sets.{bit}
 
 -- `Part n m`: m is a part of n.
 pub data Reached (Part : ℕ → ℕ → Type 0) (from : ℕ) : ℕ → Type 0 where

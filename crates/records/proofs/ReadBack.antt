@@ -3,19 +3,18 @@
 use mathlib.Core.Path.{_≡_, refl, sym, _∙_, ap, ap₂}
 use mathlib.Core.List.{List, _++_}
 use Prim.Native.Nat.{ℕ, _+_, _*_, _≤_, _<_}
-use native.Mathlib.Numerals.{add-one}
 use native.Mathlib.Omega.{arith}
 use lib.ListN.{length, getD, drop, length-append, length-drop, List·getD-append}
 use lib.Seq.{ext-getD, sets}
 use Rattle.base.proofs.Joined.{length-joined, getD-joined}
 use Rattle.base.proofs.Filled.{filled-at}
-use Rattle.base.proofs.Lists.{sets-then, sets-front}
-use Rattle.board.specs.Places.{caseAt}
-use Rattle.board.specs.declared.Case.{Case}
-use Rattle.board.specs.declared.Case.the-variants.{Empty, Enforced, Watched, Fulfilled}
-use Rattle.board.specs.declared.Place.{Place}
-use Rattle.board.specs.declared.Board.{Board}
-use Rattle.board.specs.Layout.{placeCount}
+use Rattle.base.proofs.Lists.{sets-front}
+use Rattle.places.specs.Places.{placeIn, fromPlaces, caseAt}
+use Rattle.places.specs.declared.Case.{Case}
+use Rattle.places.specs.declared.Case.the-variants.{Empty, Enforced, Watched, Fulfilled}
+use Rattle.places.specs.declared.Place.{Place}
+use Rattle.places.specs.declared.Board.{Board}
+use Rattle.places.specs.Layout.{placeCount}
 use Rattle.records.specs.Record.{placeLength, recordLength, caseOf, placeOf, placeAt, boardOf, caseByte, rowByte, placeBytes, bytesTo, recordOf, written}
 
 -- one place
@@ -26,15 +25,15 @@ case-back (Watched row) = refl
 case-back Fulfilled = refl
 
 pub place-back : (p : Place) → placeOf (caseByte (p .case)) (rowByte (p .case)) ≡ p
-place-back p = ap (λ (c : Case). record { case = c }) (case-back (p .case))
+place-back p = ap placeIn (case-back (p .case))
 
 pub eight-places : (bytes : List ℕ) → length (boardOf bytes .places) ≡ placeCount
 unfolding boardOf
 eight-places bytes = refl
 
-pub place-of-board : (bytes : List ℕ) (i : ℕ) → i < placeCount → getD (boardOf bytes .places) i (record { case = Empty }) ≡ placeAt bytes i
+pub place-of-board : (bytes : List ℕ) (i : ℕ) → i < placeCount → getD (boardOf bytes .places) i (placeIn Empty) ≡ placeAt bytes i
 unfolding boardOf
-place-of-board bytes i h = filled-at placeCount (record { case = Empty }) (λ i before. placeAt bytes i) placeCount i h (omega arith)
+place-of-board bytes i h = filled-at placeCount (placeIn Empty) (λ i before. placeAt bytes i) placeCount i h (omega arith)
 
 module _ (board : Board) where
   length-bytes : (n : ℕ) → length (bytesTo board n) ≡ placeLength * n
@@ -43,10 +42,6 @@ module _ (board : Board) where
   pub length-record : length (recordOf board) ≡ recordLength
   unfolding recordOf
   length-record = length-bytes placeCount
-
-  -- a place stored behind those before it
-  pub bytes-more : (l : List ℕ) (i : ℕ) → sets (sets l 0 (bytesTo board i)) (placeLength * i) (placeBytes (caseAt board i)) ≡ sets l 0 (bytesTo board (i + 1))
-  bytes-more l i = rw (add-one i) (sets-then l 0 (bytesTo board i) (placeBytes (caseAt board i)) (placeLength * i) (omega (arith, length-bytes i)))
 
   -- all places stored
   pub bytes-all : (l : List ℕ) → recordLength ≤ length l → sets l 0 (recordOf board) ≡ written board l
@@ -62,17 +57,17 @@ module _ (board : Board) where
         List·getD-append (recordOf board) (drop recordLength bytes) 0 (placeLength * i + j) (omega (arith, length-record))
         ∙ getD-joined placeLength (λ k. placeBytes (caseAt board k)) (λ k. refl) placeCount i j h g
 
-    place-at-back : (i : ℕ) → i < placeCount → placeAt (written board bytes) i ≡ getD (board .places) i (record { case = Empty })
+    place-at-back : (i : ℕ) → i < placeCount → placeAt (written board bytes) i ≡ getD (board .places) i (placeIn Empty)
     place-at-back i h =
         let e : placeLength * i ≡ placeLength * i + 0 = omega arith in
         ap₂ placeOf (ap (λ (n : ℕ). getD (written board bytes) n 0) e ∙ byte-back i 0 h (omega arith)) (byte-back i 1 h (omega arith))
-        ∙ place-back (getD (board .places) i (record { case = Empty }))
+        ∙ place-back (getD (board .places) i (placeIn Empty))
 
     pub read-back : length (board .places) ≡ placeCount → boardOf (written board bytes) ≡ board
     read-back eight =
-        ap (λ (ps : List Place). record { places = ps })
-        (ext-getD (record { case = Empty }) (boardOf (written board bytes) .places) (board .places) (eight-places (written board bytes) ∙ sym eight)
+        ap fromPlaces
+        (ext-getD (placeIn Empty) (boardOf (written board bytes) .places) (board .places) (eight-places (written board bytes) ∙ sym eight)
         (λ i h. at i (omega (arith, eight-places (written board bytes)))))
       where
-        at : (i : ℕ) → i < placeCount → getD (boardOf (written board bytes) .places) i (record { case = Empty }) ≡ getD (board .places) i (record { case = Empty })
+        at : (i : ℕ) → i < placeCount → getD (boardOf (written board bytes) .places) i (placeIn Empty) ≡ getD (board .places) i (placeIn Empty)
         at i h = place-of-board (written board bytes) i h ∙ place-at-back i h

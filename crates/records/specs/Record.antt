@@ -1,17 +1,19 @@
 -- A board as a record of bytes, two a place: the case (0 empty, 1 enforced, 2 watched, 3 fulfilled) and the row.
 -- Assumes nothing.
+use mathlib.Core.Path.{_≡_}
 use mathlib.Core.Bool.{cond}
 use mathlib.Core.List.{List, [], _∷_, _++_}
-use Prim.Native.Nat.{ℕ, _+_, _*_}
+use Prim.Native.Nat.{ℕ, _+_, _*_, _<_}
 use lib.Dec.{eqb}
 use lib.ListN.{getD, drop}
 use Rattle.base.specs.Build.{filled, joined}
-use Rattle.board.specs.Layout.{placeCount}
-use Rattle.board.specs.Places.{caseAt}
-use Rattle.board.specs.declared.Case.{Case}
-use Rattle.board.specs.declared.Case.the-variants.{Empty, Enforced, Watched, Fulfilled}
-use Rattle.board.specs.declared.Place.{Place}
-use Rattle.board.specs.declared.Board.{Board}
+use Rattle.base.specs.Word.{wordBytes}
+use Rattle.places.specs.Layout.{placeCount}
+use Rattle.places.specs.Places.{placeIn, fromPlaces, caseIn, caseAt}
+use Rattle.places.specs.declared.Case.{Case}
+use Rattle.places.specs.declared.Case.the-variants.{Empty, Enforced, Watched, Fulfilled}
+use Rattle.places.specs.declared.Place.{Place}
+use Rattle.places.specs.declared.Board.{Board}
 
 -- The bytes of a place, and those of a record.
 abbrev pub placeLength : ℕ
@@ -27,7 +29,7 @@ caseOf case row =
     cond (eqb case 0) Empty (cond (eqb case 1) (Enforced row) (cond (eqb case 2) (Watched row) (cond (eqb case 3) Fulfilled (Enforced 255))))
 
 abbrev pub placeOf : ℕ → ℕ → Place
-placeOf case row = record { case = caseOf case row }
+placeOf case row = placeIn (caseOf case row)
 
 -- Place i of a record.
 abbrev pub placeAt : List ℕ → ℕ → Place
@@ -35,10 +37,10 @@ placeAt bytes i = placeOf (getD bytes (placeLength * i) 0) (getD bytes (placeLen
 
 -- Any bytes are a board: those of its places are read, and zeros where there are fewer.
 abbrev pub placesTo : List ℕ → ℕ → List Place
-placesTo bytes n = filled placeCount (record { case = Empty }) (λ i before. placeAt bytes i) n
+placesTo bytes n = filled placeCount (placeIn Empty) (λ i before. placeAt bytes i) n
 
 unfoldable pub boardOf : List ℕ → Board
-boardOf bytes = record { places = placesTo bytes placeCount }
+boardOf bytes = fromPlaces (placesTo bytes placeCount)
 
 abbrev pub caseByte : Case → ℕ
 caseByte Empty = 0
@@ -54,6 +56,10 @@ rowByte Fulfilled = 0
 
 abbrev pub placeBytes : Case → List ℕ
 placeBytes case = caseByte case ∷ rowByte case ∷ []
+
+-- Numbers of 16 bits whose bytes are those of the first n places.
+abbrev pub WordsTo : List Place → ℕ → List ℕ → Type 0
+WordsTo places n words = (i : ℕ) → i < n → wordBytes (getD words i 0) ≡ placeBytes (caseIn places i)
 
 -- The bytes of a board. Reading back what was written gives the same board (proofs/ReadBack.antt).
 abbrev pub bytesTo : Board → ℕ → List ℕ

@@ -1,13 +1,17 @@
 // A board as a record of bytes, two a place: its case and its row.
-use board::Board;
-use board::Case;
-use board::PLACES;
-use board::Place;
+use base::put_word;
+use base::wide;
+use places::Board;
+use places::Case;
+use places::PLACES;
+use places::Place;
+use places::from_places;
 ghost use mathlib.Core.Path.{_≡_};
-ghost use Prim.Native.Nat.{_+_, _≤_, _<_};
+ghost use Prim.Native.Nat.{_≤_, _<_};
 ghost use lib.ListN.{length};
-ghost use lib.Seq.{sets};
-ghost use Rattle.records.specs.Record.{placeOf, boardOf, caseByte, rowByte, placeBytes, written, recordLength};
+ghost use Rattle.base.specs.Word.{wordBytes};
+ghost use Rattle.places.specs.Layout.{placeCount};
+ghost use Rattle.records.specs.Record.{placeOf, boardOf, caseByte, rowByte, placeBytes, WordsTo, written, recordLength};
 
 // The bytes of a place, and those of a record.
 const PLACE: usize = 2;
@@ -57,7 +61,7 @@ pub fn read_board(bytes: &[u8]) -> Board
         places[i] = place_of(bytes[PLACE * i], bytes[PLACE * i + 1]);
         i += 1;
     }
-    Board { places }
+    from_places(places)
 }
 
 // The first byte of a place: its case.
@@ -84,13 +88,30 @@ fn row_byte(case: Case) -> u8
     }
 }
 
-// Writes the bytes of a place.
-fn write_place(bytes: &mut [u8], at: usize, case: Case)
-    requires { ⌜ at + 1 < length (now bytes) ⌝ }
-    ensures { λ _. ⌜ now (bytes .exit) ≡ sets (now (bytes .entry)) at (placeBytes case) ⌝ }
+// The two bytes of a place as one number of 16 bits, the case below the row.
+fn place_word(case: Case) -> u16
+    ensures { λ r. ⌜ wordBytes r ≡ placeBytes case ⌝ }
 {
-    bytes[at] = case_byte(case);
-    bytes[at + 1] = row_byte(case);
+    let low = case_byte(case) as u16;
+    let high = row_byte(case) as u16;
+    low + 256 * high
+}
+
+// These numbers of all places. They stand in an array before they are written, so that the compiler makes the record by vector instructions and stores
+// it at once: the load of the next call is as wide.
+fn words_of(board: Board) -> [u16; PLACES]
+    ensures { λ r. ⌜ WordsTo (board .places) placeCount r ⌝ }
+{
+    let places = board.places;
+    let mut words = [0u16; PLACES];
+    let mut i = 0;
+    while i < PLACES {
+        let place = places[i];
+        let case = place.case;
+        words[i] = place_word(case);
+        i += 1;
+    }
+    words
 }
 
 // Writes a board over the front.
@@ -98,12 +119,10 @@ pub fn write_board(bytes: &mut [u8], board: Board)
     requires { ⌜ recordLength ≤ length (now bytes) ⌝ }
     ensures { λ _. ⌜ now (bytes .exit) ≡ written board (now (bytes .entry)) ⌝ }
 {
-    let places = board.places;
+    let words = words_of(board);
     let mut i = 0;
     while i < PLACES {
-        let place = places[i];
-        let case = place.case;
-        write_place(bytes, PLACE * i, case);
+        put_word(bytes, PLACE * i, wide(words[i]));
         i += 1;
     }
 }

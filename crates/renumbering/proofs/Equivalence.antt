@@ -4,8 +4,8 @@ use mathlib.Core.Path.{_≡_, refl, sym, ap, _∙_}
 use mathlib.Core.Bool.{Bool, true, false}
 use Prim.Native.Nat.{ℕ}
 use native.Mathlib.Omega.{arith}
+use Rattle.base.specs.Sets.{bit}
 use Rattle.base.proofs.Truths.{not-true}
-use Rattle.policy.specs.Formula.{bit}
 use Rattle.syntax.specs.Formed.{Formed}
 use Rattle.syntax.specs.Nodes.{nodeOf}
 use Rattle.syntax.specs.declared.Node.{Node}

@@ -6,8 +6,8 @@ use mathlib.Core.List.{List}
 use mathlib.Core.Logic.{_↔_}
 use Prim.Native.Nat.{ℕ, zero, suc, _-_, _≤_, _<_}
 use native.Mathlib.Omega.{arith}
+use Rattle.base.specs.Sets.{bit}
 use Rattle.trace.specs.declared.Mode.{Mode}
-use Rattle.policy.specs.Formula.{bit}
 use Rattle.syntax.specs.Formed.{Formed}
 use Rattle.syntax.specs.Nodes.{nodeAt, nodeOf}
 use Rattle.syntax.specs.Types.{typeAt, typeNode}

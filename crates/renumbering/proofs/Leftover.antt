@@ -6,9 +6,9 @@ use mathlib.Core.List.{List, _∷_}
 use Prim.Native.Nat.{ℕ, zero, suc, _+_, _<_}
 use native.Mathlib.Omega.{arith}
 use lib.ListN.{replicate}
+use Rattle.base.specs.Sets.{bit}
 use Rattle.base.proofs.Truths.{not-true}
 use Rattle.trace.specs.declared.Mode.the-variants.{Watched}
-use Rattle.policy.specs.Formula.{bit}
 use Rattle.syntax.specs.Nodes.{noPropositions, nodeOf}
 use Rattle.syntax.specs.Formed.{PartsBelow, ArgumentFits, Formed}
 use Rattle.syntax.specs.declared.Node.the-variants.{True, Count, Always}

@@ -1,15 +1,16 @@
 -- All copies moved one by one, from the lowest row left.
 -- Assumes nothing.
 use mathlib.Core.Path.{_≡_, refl, sym, _∙_, ap}
-use mathlib.Core.Bool.{Bool, true, false, cond, _||_}
+use mathlib.Core.Bool.{Bool, true, false, cond}
 use Prim.Native.Nat.{ℕ, zero, suc, _-_, _^_, _<_}
 use native.Mathlib.Omega.{arith}
 use lib.Bits.{bitOr, or-comm, and-le-l}
 use lib.Count.{trailingZeros}
+use Rattle.base.specs.Sets.{bit}
+use Rattle.base.proofs.Bits.{union-assoc}
 use Rattle.trace.specs.Trace.{Move, trip, go}
-use Rattle.policy.specs.Formula.{bit}
 use Rattle.policy.specs.Value.{Part, insert, join, moveBelow}
-use Rattle.policy.proofs.Sets.{bit-or, same-bits, insert-comm}
+use Rattle.policy.proofs.Sets.{insert-comm}
 use Rattle.policy.proofs.Copies.{move-empty, move-insert}
 use Rattle.rules.proofs.Lowest.{cleared, lowest}
 
@@ -18,25 +19,15 @@ abbrev carry : ℕ → Move ℕ → Move ℕ
 carry moved trip = trip
 carry moved (go set) = go (bitOr moved set)
 
-or-assoc : (s t u : ℕ) → bitOr s (bitOr t u) ≡ bitOr (bitOr s t) u
-or-assoc s t u = same-bits (bitOr s (bitOr t u)) (bitOr (bitOr s t) u) each
-  where
-    assoc : (x y z : Bool) → (x || (y || z)) ≡ ((x || y) || z)
-    assoc true y z = refl
-    assoc false y z = refl
-
-    each : (q : ℕ) → bit (bitOr s (bitOr t u)) q ≡ bit (bitOr (bitOr s t) u) q
-    each q = rw (bit-or s (bitOr t u) q, bit-or t u q, bit-or (bitOr s t) u q, bit-or s t q) (assoc (bit s q) (bit t q) (bit u q))
-
 -- a copy's move joined before or behind
 carry-join : (s : ℕ) (m n : Move ℕ) → carry s (join m n) ≡ join m (carry s n)
 carry-join s trip n = refl
 carry-join s (go r) trip = refl
-carry-join s (go r) (go t) = ap go (or-assoc s t (2 ^ r))
+carry-join s (go r) (go t) = ap go (union-assoc s t (2 ^ r))
 
 carry-insert : (r s : ℕ) (m : Move ℕ) → carry s (join (go r) m) ≡ carry (insert r s) m
 carry-insert r s trip = refl
-carry-insert r s (go t) = ap go (rw (or-comm t (2 ^ r)) (or-assoc s (2 ^ r) t))
+carry-insert r s (go t) = ap go (rw (or-comm t (2 ^ r)) (union-assoc s (2 ^ r) t))
 
 -- a copy beginning now is among those moved
 begins : (f : Part) (set a n : ℕ) → carry 1 (moveBelow f set a n) ≡ moveBelow f set a n

@@ -4,9 +4,9 @@ use mathlib.Core.Path.{_≡_}
 use mathlib.Core.List.{List}
 use Prim.Native.Nat.{ℕ, _*_, _≤_, _<_}
 use lib.ListN.{length, getD, take, drop}
+use Rattle.base.specs.Sets.{bit}
 use Rattle.trace.specs.Trace.{Move, trip, go}
 use Rattle.automaton.specs.Machine.{transition}
-use Rattle.policy.specs.Formula.{bit}
 use Rattle.policy.specs.Value.{Part}
 use Rattle.policy.specs.Parts.{AllParts}
 use Rattle.policy.specs.Rule.{Rule, opening, counting, same, both, either, copied, until, then, timed, filtered, onParts}

@@ -5,7 +5,7 @@ use mathlib.Core.Bool.{Bool, true, false, cond}
 use mathlib.Core.List.{List}
 use Prim.Native.Nat.{ℕ, zero, suc, _-_, _≤_, _<_}
 use native.Mathlib.Omega.{arith}
-use Rattle.policy.specs.Formula.{bit}
+use Rattle.base.specs.Sets.{bit}
 use Rattle.syntax.specs.Nodes.{nodeAt}
 use Rattle.syntax.specs.Faults.{numberOf, spotOf}
 use Rattle.syntax.specs.Types.{typeAt, typeNode}

@@ -8,11 +8,15 @@ use Prim.Native.Nat.{ℕ}
 use native.Mathlib.Omega.{arith}
 use lib.ListN.{take}
 use Rattle.table.specs.Table.{typeOf}
-use Rattle.board.specs.Calls.{Reply, permitted, Acts}
-use Rattle.board.specs.declared.Board.{Board}
-use Rattle.histories.specs.History.{Event, History, rule, onPlace, Listed, IsPermitted, Member}
-use Rattle.histories.specs.Policies.{CompiledFrom}
-use Rattle.histories.proofs.Permits.{permit-by-policies, fulfilled-by-policies}
+use Rattle.view.specs.Steps.{act, Reply, permitted}
+use Rattle.view.specs.Calls.{Calls}
+use Rattle.runs.specs.Events.{Event, rule, onPlace}
+use Rattle.histories.specs.History.{History}
+use Rattle.runs.specs.Verdicts.{Listed, IsPermitted}
+use Rattle.base.specs.Sets.{Member}
+use Rattle.places.specs.declared.Board.{Board}
+use Rattle.board_policies.specs.Policies.{CompiledFrom}
+use Rattle.board_policies.proofs.Permits.{permit-by-policies, fulfilled-by-policies}
 use Rattle.grammar.specs.Sheets.{sheetFor}
 use Rattle.text_laws.specs.Boards.{FromText, EnforcedTexts, NoneTextViolated, FirstSatisfiedOver}
 use Rattle.text_laws.proofs.Compiled.{satisfied-sheet, read-as}
@@ -36,8 +40,8 @@ compiled-from from =
 module _ {events : List Event} {board : Board} {area : List ℕ} (h : History events board area) where
   -- Where each enforced rule on is compiled from a text, an action of the list is permitted exactly when no enforced text's policy is violated by
   -- the actions permitted since its rule was put on, followed by this one.
-  pub text-on-board : (texts : EnforcedTexts events) {action : ℕ} → Listed events action → {reply : Reply} {next : Board}
-      → Acts board area action reply next → IsPermitted reply ↔ NoneTextViolated events texts action
+  pub text-on-board : (texts : EnforcedTexts events) {action : ℕ} → Listed events action → {reply : Reply} {next : Board} {rest : List ℕ}
+      → Calls board area (act action) reply next rest → IsPermitted reply ↔ NoneTextViolated events texts action
   text-on-board texts {action} l p =
       let e = permit-by-policies h (λ i table since on enforced. compiled-from (texts i table since on enforced)) l p in (
         λ is i table since on enforced.
@@ -51,7 +55,7 @@ module _ {events : List Event} {board : Board} {area : List ℕ} (h : History ev
       )
 
   -- A watched rule that is compiled from a text is reported at exactly the permitted action that first satisfies the text's policy.
-  pub text-reported-on-board : {action set : ℕ} {next : Board} → Acts board area action (permitted set) next
+  pub text-reported-on-board : {action set : ℕ} {next : Board} {rest : List ℕ} → Calls board area (act action) (permitted set) next rest
       → (i : ℕ) (table since : List ℕ) → onPlace events i ≡ rule table since → typeOf table ≡ 2 → (from : FromText table)
       → Member set i ↔ FirstSatisfiedOver (from .actions) (from .reading .policy) since action
   text-reported-on-board p i table since on watched from =

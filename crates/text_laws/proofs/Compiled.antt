@@ -27,7 +27,7 @@ use Rattle.compiler_laws.specs.Demands.{ReadAs, NoneOver, OneActionList, SameSa
 use Rattle.compiler_laws.proofs.CompiledTable.{TableOf, compiled-table}
 use Rattle.compiler_laws.proofs.Demands.{none-over, table-exactly-unless-refused, same-table-exactly}
 use Rattle.compiler_laws.proofs.Calls.{table-in-output}
-use Rattle.histories.specs.Policies.{satisfiesSheet}
+use Rattle.board_policies.specs.Policies.{satisfiesSheet}
 use Rattle.text_sheets.proofs.Padded.{text-propositions}
 use Rattle.text_sheets.proofs.Meanings.{text-policy}
 use Rattle.text_reader.specs.Calling.{written, ReadsInto}

@@ -9,7 +9,7 @@ use Rattle.policy.specs.Policy.{Policy}
 use Rattle.table.specs.Table.{typeOf}
 use Rattle.table.specs.Answer.{accepted}
 use Rattle.compiler.specs.Compiles.{Compiles}
-use Rattle.histories.specs.History.{Event, onPlace, rule}
+use Rattle.runs.specs.Events.{Event, onPlace, rule}
 use Rattle.grammar.specs.Words.{wordsOf}
 use Rattle.grammar.specs.Grammar.{Rule, Reads}
 use Rattle.grammar.specs.declared.Category.the-variants.{Text}

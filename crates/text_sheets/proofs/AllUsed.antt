@@ -9,7 +9,8 @@ use Prim.Native.Nat.{ℕ, _+_, _-_, _<_}
 use native.Mathlib.Nat.{zero-add}
 use native.Mathlib.Omega.{arith}
 use lib.ListN.{length}
-use Rattle.policy.specs.Formula.{bit, Formula, always-true, always-false, proposition, negation, conjunction, disjunction}
+use Rattle.base.specs.Sets.{bit}
+use Rattle.policy.specs.Formula.{Formula, always-true, always-false, proposition, negation, conjunction, disjunction}
 use Rattle.policy.specs.Policy.{Policy, now, holds-first, count, not-p, and-p, or-p, eventually, always, before-, before+, after-, after+, fulfilling, ignoring}
 use Rattle.syntax.specs.Nodes.{nodeOf}
 use Rattle.syntax.specs.declared.Node.{Node}

@@ -8,7 +8,7 @@ use native.Mathlib.Numerals.{add-one}
 use native.Mathlib.Omega.{arith}
 use lib.ListN.{length, set, length-append, length-set}
 use lib.Seq.{getD-set-same, getD-set-other}
-use Rattle.policy.specs.Formula.{bit}
+use Rattle.base.specs.Sets.{bit}
 use Rattle.syntax.specs.Nodes.{nodeOf}
 use Rattle.syntax.specs.Types.{typeAt, typeNode}
 use Rattle.typing.specs.Typed.{typed, typeNodes}

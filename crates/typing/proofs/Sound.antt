@@ -9,11 +9,11 @@ use native.Mathlib.Decide.{ℕ-discrete}
 use native.Mathlib.Omega.{arith}
 use lib.ListN.{length, set, length-set}
 use lib.Seq.{getD-set-same, getD-set-other}
+use Rattle.base.specs.Sets.{bit}
 use Rattle.base.proofs.Lists.{getD-blank}
 use Rattle.base.proofs.Truths.{not-true}
 use Rattle.trace.specs.declared.Mode.{Mode}
 use Rattle.policy.specs.declared.Bound.{Bound}
-use Rattle.policy.specs.Formula.{bit}
 use Rattle.syntax.specs.Nodes.{nodeAt, nodeOf}
 use Rattle.syntax.specs.Formed.{PartsBelow, Formed}
 use Rattle.syntax.specs.Types.{typeAt, typeNode}

@@ -6,7 +6,7 @@ use mathlib.Core.List.{List}
 use Prim.Native.Nat.{ℕ, zero, suc, _≤_, _<_}
 use native.Mathlib.Decide.{ℕ-discrete}
 use native.Mathlib.Omega.{arith}
-use Rattle.policy.specs.Formula.{bit}
+use Rattle.base.specs.Sets.{bit}
 use Rattle.syntax.specs.Nodes.{nodeAt}
 use Rattle.syntax.specs.Types.{typeAt, typeNode}
 use Rattle.typing.specs.Typed.{mistyped, typed, typeNext, typeNodes}

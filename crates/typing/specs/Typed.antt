@@ -5,10 +5,10 @@ use mathlib.Core.Bool.{cond}
 use mathlib.Core.List.{List}
 use Prim.Native.Nat.{ℕ, zero, suc, _-_, _<_}
 use lib.ListN.{set, replicate}
+use Rattle.base.specs.Sets.{bit}
 use Rattle.trace.specs.declared.Mode.{Mode}
 use Rattle.policy.specs.declared.Bound.{Bound}
 use Rattle.policy.specs.declared.Typing.the-variants.{Typed}
-use Rattle.policy.specs.Formula.{bit}
 use Rattle.policy.specs.Typing.{typeOf}
 use Rattle.syntax.specs.Nodes.{nodeAt, nodeOf}
 use Rattle.syntax.specs.Formed.{Formed}

@@ -9,7 +9,7 @@ use lib.Pow.{shl-exact}
 use lib.Bits.{bitOr}
 use borrow.Author.Needs.{needs}
 use borrow.Author.Tests.{ne-eqb}
-use Rattle.policy.specs.Formula.{bit}
+use Rattle.base.specs.Sets.{bit}
 use Rattle.reached.specs.Reached.{spread, reachedSet}
 use Rattle.reached.specs.Parts.{partSets, InParts}
 use Rattle.reached.specs.declared.Parts.{Parts}

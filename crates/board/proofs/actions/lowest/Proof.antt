@@ -2,7 +2,7 @@
 -- Assumes nothing.
 use native.Mathlib.Omega.{arith}
 use lib.Count.{trailing-le}
-use Rattle.board.proofs.Sets.{lowest-in}
+use Rattle.base.proofs.Sets.{lowest-in}
 use Rattle.board.proofs.actions.lowest.Statement.{statement}
 use Rattle.board.proofs.actions.lowest.Tie as tie
 
@@ -10,7 +10,7 @@ cast-result : tie.Need-cast-result
 cast-result c = omega (arith, trailing-le 8 (c .args .set))
 
 returns : tie.Need-returns
-returns c = lowest-in 8 (c .args .set) (c .pre) (omega (arith, c .fits .set .fits))
+returns c = λ some. lowest-in 8 (c .args .set) some (omega (arith, c .fits .set .fits))
 
 pub lowest-spec : {M : Type 1} → statement M
 lowest-spec = tie.close (tie.spec cast-result returns)

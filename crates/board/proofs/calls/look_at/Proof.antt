@@ -5,13 +5,12 @@ use mathlib.Core.Bool.{Bool, true, false}
 use mathlib.Core.List.{List}
 use Prim.Native.Nat.{ℕ}
 use native.Mathlib.Omega.{arith}
-use Rattle.board.specs.Layout.{placeCount, Within}
-use Rattle.board.specs.Places.{caseAt, taken}
-use Rattle.board.specs.View.{viewOf}
-use Rattle.board.specs.Possible.{Possible}
-use Rattle.board.specs.Survey.{isImpossible}
-use Rattle.board.specs.declared.Board.{Board}
-use Rattle.board.proofs.Surveying.{cannot-be, can-be}
+use Rattle.places.specs.Layout.{placeCount, Within}
+use Rattle.places.specs.Places.{caseAt, taken}
+use Rattle.view.specs.Calls.{CanBe}
+use Rattle.scan.specs.Survey.{isImpossible}
+use Rattle.places.specs.declared.Board.{Board}
+use Rattle.scan.proofs.Surveying.{cannot-be, can-be}
 use borrow.Author.Needs.{needs}
 use Rattle.board.proofs.calls.look_at.Statement.{statement}
 use Rattle.board.proofs.calls.look_at.Tie as tie
@@ -40,8 +39,8 @@ module _ (c : tie.After-taken) where
 
 -- a board that can be
 module _ (c : tie.Else3) where
-  possible : Possible placeCount (viewOf (board (c .before)) (area (c .before)))
-  possible = can-be _ _ (scan-at (c .before) .scan .result .found) (scan-at (c .before) .scan .ensures .surveys) (tested (c .before) false (c .if3 .left))
+  can : CanBe placeCount (board (c .before)) (area (c .before))
+  can = can-be _ _ (scan-at (c .before) .scan .result .found) (scan-at (c .before) .scan .ensures .surveys) (tested (c .before) false (c .if3 .left))
 
 returns : tie.Need-returns
 returns c = search needs
@@ -67,12 +66,12 @@ returns-3 c =
     (within t, cannot-be _ _ (scan-at t .scan .result .found) (scan-at t .scan .ensures .surveys) (tested t true (c .if3 .taken)))
 
 returns-4 : tie.Need-returns-4
-returns-4 c = record { within = within (c .before .before); possible = possible (c .before); on = on (c .before .before) true (c .if4 .taken) }
+returns-4 c = record { within = within (c .before .before); can = can (c .before); on = on (c .before .before) true (c .if4 .taken) }
 
 returns-5 : tie.Need-returns-5
 returns-5 c =
     let t = c .before .before in
-    record { within = within t; possible = possible (c .before); free = on t false (c .if4 .left); surveyed = scan-at t .scan .ensures .surveys }
+    record { within = within t; can = can (c .before); free = on t false (c .if4 .left); surveyed = scan-at t .scan .ensures .surveys }
 
 pub look-at-spec : {M : Type 1} → statement M
 look-at-spec =

@@ -6,11 +6,12 @@ use Prim.Native.Nat.{ℕ}
 use native.Mathlib.Omega.{arith}
 use lib.ListN.{drop}
 use lib.Seq.{length-take-le}
-use Rattle.board.specs.Calls.{Makes, made, make-14, done, input}
-use Rattle.board.specs.Layout.{areaLength}
-use Rattle.board.specs.Places.{emptyBoard}
-use Rattle.board.specs.declared.Board.{Board}
-use Rattle.board.proofs.Written.{cleared-front}
+use Rattle.view.specs.Steps.{done, input}
+use Rattle.view.specs.Calls.{Makes, made, make-14}
+use Rattle.places.specs.Layout.{areaLength}
+use Rattle.places.specs.Places.{emptyBoard}
+use Rattle.places.specs.declared.Board.{Board}
+use Rattle.places.proofs.Written.{cleared-front}
 use borrow.Author.Needs.{needs}
 use Rattle.board.proofs.calls.new_board.Statement.{statement}
 use Rattle.board.proofs.calls.new_board.Tie as tie
@@ -27,7 +28,7 @@ slice-relend-prefix-clear : tie.Need-slice-relend-prefix-clear
 slice-relend-prefix-clear c = search needs
 
 slice-aggregate-clear : tie.Need-slice-aggregate-clear
-slice-aggregate-clear c = sym (length-take-le areaLength (c .before .before .before .before .args .area .now) (omega arith))
+slice-aggregate-clear c = sym (length-take-le _ (c .before .before .before .before .args .area .now) (omega arith))
 
 clear-requires : tie.Need-clear-requires
 clear-requires c κs = search needs

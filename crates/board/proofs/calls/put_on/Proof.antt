@@ -1,8 +1,11 @@
 -- `board::calls::put_on` meets its contract: what is found at the place, and what `put_table` answers.
 -- Assumes nothing.
-use mathlib.Core.Path.{_≡_, refl, subst}
-use Rattle.board.specs.Calls.{short, called, put-13, put-25, put-22}
-use Rattle.board.specs.View.{stays}
+use mathlib.Core.Path.{_≡_, sym, _∙_, subst}
+use native.Mathlib.Omega.{arith}
+use Rattle.trace.proofs.Laws.{not-both}
+use Rattle.view.specs.Steps.{put-on}
+use Rattle.board.specs.Asking.{here, later}
+use Rattle.board.proofs.Calling.{call-refused}
 use Rattle.board.specs.Targets.{Looks}
 use Rattle.board.specs.declared.calls.Target.{Target}
 use borrow.Author.Needs.{needs}
@@ -41,7 +44,7 @@ same-length : tie.Need-same-length
 same-length c = search needs
 
 returns : tie.Need-returns
-returns c = short (looks (c .before .before) _ (c .enum-told .given .1)) refl refl refl
+returns c = call-refused (put-on _ _) (here (looks (c .before .before) _ (c .enum-told .given .1)))
 
 same-length-2 : tie.Need-same-length-2
 same-length-2 c = search needs
@@ -49,7 +52,7 @@ same-length-2 c = search needs
 returns-2 : tie.Need-returns-2
 returns-2 c =
     let l = looks (c .before .before) _ (c .enum-told2 .given .1) in
-    called (l .0) stays (put-13 (l .1)) refl refl
+    call-refused (put-on _ _) (later (l .0) (here (λ h. omega arith)))
 
 same-length-3 : tie.Need-same-length-3
 same-length-3 c = search needs
@@ -57,7 +60,7 @@ same-length-3 c = search needs
 returns-3 : tie.Need-returns-3
 returns-3 c =
     let l = looks (c .before .before) _ (c .enum-told3 .given .1) in
-    called (l .0 .whole) stays (put-25 (l .0 .below) (l .1)) refl refl
+    call-refused (put-on _ _) (later (l .0 .whole) (later (l .0 .below) (here (l .1))))
 
 same-length-4 : tie.Need-same-length-4
 same-length-4 c = search needs
@@ -65,7 +68,7 @@ same-length-4 c = search needs
 returns-4 : tie.Need-returns-4
 returns-4 c =
     let l = looks (c .before .before) _ (c .enum-told4 .given .1) in
-    called (l .within .whole) stays (put-22 (l .within .below) (l .possible) (l .on)) refl refl
+    call-refused (put-on _ _) (later (l .within .whole) (later (l .within .below) (later (l .can) (here (λ e. not-both (sym (l .on) ∙ e))))))
 
 same-length-5 : tie.Need-same-length-5
 same-length-5 c = search needs

@@ -1,19 +1,22 @@
--- `board::calls::put_table` meets its contract, one way out of `PutsOn` for each answer.
+-- `board::calls::put_table` meets its contract, for each answer.
 -- Assumes nothing.
 use mathlib.Core.Path.{_≡_, refl, sym, _∙_, ap, subst}
-use mathlib.Core.List.{List}
+use mathlib.Core.List.{List, [], _∷_}
 use Prim.Native.Nat.{ℕ}
 use Rattle.table.specs.declared.Loaded.{Loaded}
 use Rattle.table.specs.Answer.{modeNumber, answerOf, accepted, Loads}
-use Rattle.board.specs.Layout.{placeCount}
-use Rattle.board.specs.Places.{withCase}
-use Rattle.board.specs.View.{viewOf, stays, sets}
-use Rattle.board.specs.Calls.{called, put-refused, put-23, put, firstCase}
+use Rattle.places.specs.Layout.{placeCount}
+use Rattle.places.specs.Places.{withCase}
+use Rattle.view.specs.View.{viewOf}
+use Rattle.view.specs.Moves.{firstCase}
+use Rattle.view.specs.Steps.{Call, put-on, Check, malformed, misnumbered, other-actions, refusal, SameActions, puts}
+use Rattle.view.specs.Calls.{Calls}
 use Rattle.board.specs.Targets.{EmptyTarget}
-use Rattle.board.specs.declared.Board.{Board}
-use Rattle.board.specs.declared.Case.{Case}
-use Rattle.board.proofs.Seeing.{accepted-fits}
-use Rattle.board.proofs.Surveying.{same-actions, other-actions}
+use Rattle.places.specs.declared.Board.{Board}
+use Rattle.places.specs.declared.Case.{Case}
+use Rattle.board.specs.Asking.{PassesOn, Stops, here, later}
+use Rattle.board.proofs.Calling.{call-refused, call-carried, loaded-type, loaded-actions, loaded-accepted, loaded-fits, load-malformed, load-misnumbered}
+use Rattle.scan.proofs.Surveying.{same-actions, other-actions as other-actions-on}
 use borrow.Author.Needs.{needs}
 use Rattle.board.proofs.calls.put_table.Statement.{statement}
 use Rattle.board.proofs.calls.put_table.Tie as tie
@@ -63,7 +66,7 @@ admits-requires c κs = search needs
 write-place-requires : tie.Need-write-place-requires
 write-place-requires c κs =
     let m = c .before .before .before .before in
-    (start (loaded m) .pre .within, accepted-fits _ _ _ _ (loads m))
+    (start (loaded m) .pre .within, loaded-fits _ (loads m))
 
 first-case-requires : tie.Need-first-case-requires
 first-case-requires c κs = search needs
@@ -71,17 +74,25 @@ first-case-requires c κs = search needs
 with-case-requires : tie.Need-with-case-requires
 with-case-requires c κs = search needs
 
+-- the checks before the table pass
+module _ (c : tie.After-load) where
+  abbrev call : Call
+  call = put-on (start c .args .place) (table c)
+
+  refuses : {check : Check} → Stops (PassesOn (board c) (area c)) check (malformed (table c) ∷ misnumbered (table c) ∷ other-actions (table c) ∷ [])
+      → Calls (board c) (area c) call (refusal check) (board c) (area c)
+  refuses s =
+      let e = start c .pre in
+      call-refused call (later (e .within .whole) (later (e .within .below) (later (e .can) (later (e .free) s))))
+
 returns : tie.Need-returns
-returns c =
-    let l = c .before .before in
-    let e = start l .pre in
-    called (e .within .whole) stays (put-refused (e .within .below) (e .possible) (e .free) 10 (answers l _ (c .enum-told .given .1))) refl refl
+returns c = let l = c .before .before in refuses l (here (load-malformed (answers l _ (c .enum-told .given .1))))
 
 returns-2 : tie.Need-returns-2
 returns-2 c =
     let l = c .before .before in
-    let e = start l .pre in
-    called (e .within .whole) stays (put-refused (e .within .below) (e .possible) (e .free) 11 (answers l _ (c .enum-told2 .given .1))) refl refl
+    let (f, n) = load-misnumbered (answers l _ (c .enum-told2 .given .1)) in
+    refuses l (later f (here n))
 
 same-length : tie.Need-same-length
 same-length c = search needs
@@ -95,11 +106,12 @@ returns-3 c =
     let l = loaded m in
     let e = start l .pre in
     let place = start l .args .place in
-    let next = c .with-case .ensures ∙ ap (λ (x : Case). withCase (board l) place x) (c .before .first-case .ensures) in
-    called (e .within .whole) (sets place (firstCase (modeNumber (m .mode .given .0 .0))) (table l))
-    (put (e .within .below) (e .possible) (e .free) _ _ _ (loads m)
-    (same-actions placeCount (viewOf (board l) (area l)) (start l .args .found) (actions m) (e .surveyed) (sym (a .admits .ensures) ∙ t .if1 .taken)))
-    next (z .write-place .ensures)
+    let first = c .before .first-case .ensures ∙ ap firstCase (loaded-type (loads m)) in
+    let next = c .with-case .ensures ∙ ap (λ (x : Case). withCase (board l) place x) first in
+    let ok = loaded-accepted (loads m) in
+    let same = same-actions placeCount (viewOf (board l) (area l)) (start l .args .found) (actions m) (e .surveyed) (sym (a .admits .ensures) ∙ t .if1 .taken) in
+    let agrees = subst (SameActions placeCount (viewOf (board l) (area l))) (loaded-actions (loads m)) same in
+    call-carried (call l) (e .within .whole, (e .within .below, (e .can, (e .free, (ok .formed, (ok .canonical, (agrees, tt))))))) puts next (z .write-place .ensures)
 
 returns-4 : tie.Need-returns-4
 returns-4 c =
@@ -107,10 +119,9 @@ returns-4 c =
     let m = a .before .before in
     let l = loaded m in
     let e = start l .pre in
-    called (e .within .whole) stays
-    (put-23 (e .within .below) (e .possible) (e .free) _ _ _ (loads m)
-    (other-actions placeCount (viewOf (board l) (area l)) (start l .args .found) (actions m) (e .surveyed) (e .possible) (sym (a .admits .ensures) ∙ c .if1 .left)))
-    refl refl
+    let ok = loaded-accepted (loads m) in
+    let differs = other-actions-on placeCount (viewOf (board l) (area l)) (start l .args .found) (actions m) (e .surveyed) (e .can) (sym (a .admits .ensures) ∙ c .if1 .left) in
+    refuses l (later (ok .formed) (later (ok .canonical) (here (λ same. differs (subst (SameActions placeCount (viewOf (board l) (area l))) (sym (loaded-actions (loads m))) same)))))
 
 pub put-table-spec : {M : Type 1} → statement M
 put-table-spec =

@@ -1,14 +1,16 @@
--- `board::calls::take_off` meets its contract, one way out of `TakesOff` for each answer.
+-- `board::calls::take_off` meets its contract.
 -- Assumes nothing.
-use mathlib.Core.Path.{_≡_, refl, subst}
+use mathlib.Core.Path.{_≡_, sym, _∙_, subst}
+use Rattle.trace.proofs.Laws.{not-both}
 use mathlib.Core.List.{List, []}
 use Prim.Native.Nat.{ℕ}
 use native.Mathlib.Omega.{arith}
-use Rattle.board.specs.Calls.{short, called, take-13, take-25, take-21, taken-off}
-use Rattle.board.specs.View.{stays, sets}
+use Rattle.view.specs.Steps.{take-off, takes}
+use Rattle.board.specs.Asking.{here, later}
+use Rattle.board.proofs.Calling.{call-refused, call-carried}
 use Rattle.board.specs.Targets.{TakenTarget, Looks}
-use Rattle.board.specs.declared.Board.{Board}
-use Rattle.board.specs.declared.Case.the-variants.{Empty}
+use Rattle.places.specs.declared.Board.{Board}
+use Rattle.places.specs.declared.Case.the-variants.{Empty}
 use Rattle.board.specs.declared.calls.Target.{Target}
 use borrow.Author.Needs.{needs}
 use Rattle.board.proofs.calls.take_off.Statement.{statement}
@@ -66,7 +68,7 @@ same-length : tie.Need-same-length
 same-length c = search needs
 
 returns : tie.Need-returns
-returns c = short (looks (c .before .before) _ (c .enum-told .given .1)) refl refl refl
+returns c = call-refused (take-off _) (here (looks (c .before .before) _ (c .enum-told .given .1)))
 
 same-length-2 : tie.Need-same-length-2
 same-length-2 c = search needs
@@ -74,7 +76,7 @@ same-length-2 c = search needs
 returns-2 : tie.Need-returns-2
 returns-2 c =
     let l = looks (c .before .before) _ (c .enum-told2 .given .1) in
-    called (l .0) stays (take-13 (l .1)) refl refl
+    call-refused (take-off _) (later (l .0) (here (λ h. omega arith)))
 
 same-length-3 : tie.Need-same-length-3
 same-length-3 c = search needs
@@ -82,7 +84,7 @@ same-length-3 c = search needs
 returns-3 : tie.Need-returns-3
 returns-3 c =
     let l = looks (c .before .before) _ (c .enum-told3 .given .1) in
-    called (l .0 .whole) stays (take-25 (l .0 .below) (l .1)) refl refl
+    call-refused (take-off _) (later (l .0 .whole) (later (l .0 .below) (here (l .1))))
 
 same-length-4 : tie.Need-same-length-4
 same-length-4 c = search needs
@@ -90,7 +92,7 @@ same-length-4 c = search needs
 returns-4 : tie.Need-returns-4
 returns-4 c =
     let l = looks (c .before .before) _ (c .enum-told4 .given .1) in
-    called (l .within .whole) stays (take-21 (l .within .below) (l .possible) (l .free)) refl refl
+    call-refused (take-off _) (later (l .within .whole) (later (l .within .below) (later (l .can) (here (λ e. not-both (sym e ∙ l .free))))))
 
 same-length-5 : tie.Need-same-length-5
 same-length-5 c = search needs
@@ -100,8 +102,7 @@ returns-5 c =
     let z = c .before .before .before in
     let w = z .before .before .before in
     let t = target w in
-    called (t .within .whole) (sets (start (looked w) .args .place) Empty []) (taken-off (t .within .below) (t .possible) (t .on))
-    (c .with-case .ensures) (z .write-place .ensures)
+    call-carried (take-off _) (t .within .whole, (t .within .below, (t .can, (t .on, tt)))) takes (c .with-case .ensures) (z .write-place .ensures)
 
 pub take-off-spec : {M : Type 1} → statement M
 take-off-spec =

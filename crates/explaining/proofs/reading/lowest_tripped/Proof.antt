@@ -8,8 +8,8 @@ use native.Mathlib.Decide.{decLt}
 use native.Mathlib.Omega.{arith}
 use borrow.Author.Needs.{needs}
 use borrow.Author.Tests.{eqb-true, eq-eqb}
+use Rattle.base.specs.Sets.{bit}
 use Rattle.trace.specs.Trace.{trips}
-use Rattle.policy.specs.Formula.{bit}
 use Rattle.rules.specs.Rules.{partAt}
 use Rattle.explaining.specs.Reading.{Walkable}
 use Rattle.explaining.proofs.Walks.{whole-tripped, whole-untripped}

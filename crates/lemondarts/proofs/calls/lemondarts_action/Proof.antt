@@ -1,8 +1,9 @@
 -- `lemondarts::calls::lemondarts_action` meets its contract.
 -- Assumes nothing.
-use mathlib.Core.Path.{refl}
 use native.Mathlib.Omega.{arith}
-use Rattle.lemondarts.specs.Exports.{ActsOn, short-record}
+use Rattle.view.specs.Steps.{act}
+use Rattle.view.specs.Calls.{Calls}
+use Rattle.lemondarts.specs.Exports.{short-record}
 use Rattle.lemondarts.proofs.Returning.{returned}
 use borrow.Author.Needs.{needs}
 use Rattle.lemondarts.proofs.calls.lemondarts_action.Statement.{statement}
@@ -14,8 +15,7 @@ returns-2 c =
     let p = a .before .before .before in
     let b = p .before in
     let g = b .before .before .before .before .before .args in
-    returned (λ board. ActsOn board (g .area .now) (g .action)) (b .before .before .if1 .left) (b .read-board .ensures)
-    (record { acts = p .action .ensures; unchanged = refl }) (a .act-answer .ensures) (c .before .before .write-back .ensures)
+    returned (λ board. Calls board (g .area .now) (act (g .action))) (b .before .before .if1 .left) (b .read-board .ensures) (p .action .ensures) (a .act-answer .ensures) (c .before .before .write-back .ensures)
 
 pub lemondarts-action-spec : {M : Type 1} → statement M
 lemondarts-action-spec =

@@ -2,7 +2,7 @@
 -- Assumes nothing.
 use mathlib.Core.Path.{refl}
 use native.Mathlib.Omega.{arith}
-use Rattle.board.specs.Calls.{Makes}
+use Rattle.view.specs.Calls.{Makes}
 use Rattle.lemondarts.specs.Exports.{short-record}
 use Rattle.lemondarts.proofs.Returning.{returned}
 use borrow.Author.Needs.{needs}

@@ -1,7 +1,8 @@
 -- `lemondarts::calls::lemondarts_put_on` meets its contract.
 -- Assumes nothing.
 use native.Mathlib.Omega.{arith}
-use Rattle.board.specs.Calls.{PutsOn}
+use Rattle.view.specs.Steps.{put-on}
+use Rattle.view.specs.Calls.{Calls}
 use Rattle.lemondarts.specs.Exports.{short-record}
 use Rattle.lemondarts.proofs.Returning.{returned}
 use borrow.Author.Needs.{needs}
@@ -14,7 +15,7 @@ returns-2 c =
     let p = a .before .before .before .before .before in
     let b = p .before .before in
     let g = b .before .before .before .before .before .before .args in
-    returned (λ board. PutsOn board (g .area .now) (g .place) (g .table .now)) (b .before .before .if1 .left) (b .read-board .ensures) (p .put-on .ensures)
+    returned (λ board. Calls board (g .area .now) (put-on (g .place) (g .table .now))) (b .before .before .if1 .left) (b .read-board .ensures) (p .put-on .ensures)
     (a .put-answer .ensures) (c .before .before .write-back .ensures)
 
 pub lemondarts-put-on-spec : {M : Type 1} → statement M

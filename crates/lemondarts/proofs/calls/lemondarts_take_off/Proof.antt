@@ -1,7 +1,8 @@
 -- `lemondarts::calls::lemondarts_take_off` meets its contract.
 -- Assumes nothing.
 use native.Mathlib.Omega.{arith}
-use Rattle.board.specs.Calls.{TakesOff}
+use Rattle.view.specs.Steps.{take-off}
+use Rattle.view.specs.Calls.{Calls}
 use Rattle.lemondarts.specs.Exports.{short-record}
 use Rattle.lemondarts.proofs.Returning.{returned}
 use borrow.Author.Needs.{needs}
@@ -14,7 +15,7 @@ returns-2 c =
     let p = a .before .before .before .before .before in
     let b = p .before .before in
     let g = b .before .before .before .before .before .args in
-    returned (λ board. TakesOff board (g .area .now) (g .place)) (b .before .before .if1 .left) (b .read-board .ensures) (p .take-off .ensures)
+    returned (λ board. Calls board (g .area .now) (take-off (g .place))) (b .before .before .if1 .left) (b .read-board .ensures) (p .take-off .ensures)
     (a .take-answer .ensures) (c .before .before .write-back .ensures)
 
 pub lemondarts-take-off-spec : {M : Type 1} → statement M

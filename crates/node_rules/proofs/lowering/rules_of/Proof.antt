@@ -16,8 +16,7 @@ use Rattle.syntax.specs.declared.TypedNode.{TypedNode}
 use Rattle.rules.specs.declared.Lowered.{Lowered}
 use Rattle.rules.specs.declared.Lowered.the-variants.{NoRule}
 use Rattle.rules.specs.declared.RuleAt.{RuleAt}
-use Rattle.node_rules.specs.ActionSets.{setAt}
-use Rattle.node_rules.specs.Lowering.{lowered, ofPolicy, rulesOf}
+use Rattle.node_rules.specs.Lowering.{lowered, ofPolicy, rulesOf, setAt}
 use Rattle.node_rules.proofs.lowering.rules_of.Statement.{statement}
 use Rattle.node_rules.proofs.lowering.rules_of.Tie as tie
 

@@ -13,8 +13,8 @@ use Rattle.syntax.specs.Types.{typeAt}
 use Rattle.syntax.specs.declared.NodeType.{NodeType}
 use Rattle.syntax.specs.declared.Sheet.{Sheet}
 use Rattle.syntax.specs.declared.TypedNode.{TypedNode}
-use Rattle.node_rules.specs.ActionSets.{setAt}
 use Rattle.node_rules.specs.FormulaSets.{satisfying, ofFormula, sheetOf, firstSets, setFrom}
+use Rattle.node_rules.specs.Lowering.{setAt}
 use Rattle.node_rules.proofs.FormulaSets.{set-right}
 use Rattle.node_rules.proofs.sets.formula_sets.Statement.{statement}
 use Rattle.node_rules.proofs.sets.formula_sets.Tie as tie

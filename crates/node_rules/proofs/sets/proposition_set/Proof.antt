@@ -12,9 +12,9 @@ use lib.Pow.{pow-mono}
 use lib.ListN.{getD}
 use borrow.Author.Needs.{needs}
 use borrow.Author.Tests.{eq-eqb, ne-eqb}
-use Rattle.policy.specs.Formula.{bit}
+use Rattle.base.specs.Sets.{bit}
+use Rattle.base.proofs.Sets.{set-width, set-in, set-out}
 use Rattle.node_rules.specs.FormulaSets.{propositionSet}
-use Rattle.node_rules.proofs.ActionSets.{set-width, set-in, set-out}
 use Rattle.node_rules.proofs.sets.proposition_set.Statement.{statement}
 use Rattle.node_rules.proofs.sets.proposition_set.Tie as tie
 

@@ -7,7 +7,7 @@ use native.Mathlib.Omega.{arith}
 use lib.Dec.{eqb}
 use borrow.Author.Needs.{needs}
 use borrow.Author.Tests.{ne-eqb}
-use Rattle.board.specs.declared.Case.the-variants.{Enforced}
+use Rattle.places.specs.declared.Case.the-variants.{Enforced}
 use Rattle.records.specs.Record.{placeOf}
 use Rattle.records.proofs.encoding.place_of.Statement.{statement}
 use Rattle.records.proofs.encoding.place_of.Tie as tie

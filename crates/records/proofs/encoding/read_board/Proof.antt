@@ -1,14 +1,13 @@
 -- `records::encoding::read_board` meets its contract. The loop's invariant: the places below i are read.
 -- Assumes nothing.
 use mathlib.Core.Path.{_≡_, refl, ap, _∙_}
-use mathlib.Core.List.{List}
 use Prim.Native.Nat.{ℕ, _-_, _≤_}
 use native.Mathlib.Numerals.{add-one}
 use native.Mathlib.Omega.{arith}
 use lib.ListN.{length}
 use borrow.Author.Needs.{needs}
-use Rattle.board.specs.declared.Place.{Place}
-use Rattle.board.specs.Layout.{placeCount}
+use Rattle.places.specs.Places.{fromPlaces}
+use Rattle.places.specs.Layout.{placeCount}
 use Rattle.records.specs.Record.{placesTo, boardOf}
 use Rattle.records.proofs.encoding.read_board.Statement.{statement}
 use Rattle.records.proofs.encoding.read_board.Tie as tie
@@ -27,9 +26,9 @@ loop-again c =
 returns : tie.Need-returns Inv-loop μ-loop
 unfolding boardOf
 returns c =
-    let l = c .before .loop in
+    let l = c .before .before .loop in
     let e : l .i ≡ placeCount = omega arith in
-    ap (λ (ps : List Place). record { places = ps }) (l .inv .2 ∙ ap (placesTo (c .before .before .before .args .bytes .now)) e)
+    c .from-places .ensures ∙ ap fromPlaces (l .inv .2 ∙ ap (placesTo (c .before .before .before .before .args .bytes .now)) e)
 
 pub read-board-spec : {M : Type 1} → statement M
 read-board-spec =
@@ -49,4 +48,5 @@ read-board-spec =
     (λ c. search needs)
     (λ c. search needs)
     loop-again
+    (λ c κs. search needs)
     returns)

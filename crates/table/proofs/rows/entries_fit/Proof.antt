@@ -1,49 +1,13 @@
--- `table::rows::entries_fit` meets its contract. The loop's invariant: the largest so far. The measure is what is left of the entries.
+-- `table::rows::entries_fit` meets its contract.
 -- Assumes nothing.
-use mathlib.Core.Path.{_≡_, ap, _∙_}
-use Prim.Native.Nat.{_≤_, _-_}
-use native.Mathlib.Omega.{arith}
-use lib.ListN.{length, getD}
+use mathlib.Core.Path.{refl}
 use borrow.Author.Needs.{needs}
-use Rattle.base.proofs.Lists.{getD-within}
-use Rattle.table.specs.Largest.{onePast}
-use Rattle.table.proofs.EntriesRange.{Largest, largest-none, largest-more, largest-decides}
+use Rattle.table.proofs.EntriesRange.{largest-decides}
 use Rattle.table.proofs.rows.entries_fit.Statement.{statement}
 use Rattle.table.proofs.rows.entries_fit.Tie as tie
 
-abbrev Inv-loop : tie.InvT-loop
-Inv-loop entries rows top₀ k₀ top k = (k ≤ length entries) × Largest entries k top
-
-abbrev μ-loop : tie.MeasureT-loop
-μ-loop entries rows top₀ k₀ top k = length entries - k
-
-loop-holds : tie.Need-loop-holds Inv-loop μ-loop
-loop-holds c = (omega arith, largest-none _)
-
-loop-again : tie.Need-loop-again Inv-loop μ-loop
-loop-again c =
-    let head = c .before .before .before .before in
-    let entries = head .before .before .args .entries .now in
-    let k = head .loop .k in
-    let read : getD entries k 0 ≡ getD entries k 255 = getD-within entries k 0 255 (search needs) in (
-      search needs,
-      largest-more entries k (head .loop .top) (c .before .one-past .result) (c .larger .result) (head .loop .inv .1) (c .before .one-past .ensures ∙ ap onePast read) (c .larger .ensures),
-    )
-
-returns : tie.Need-returns Inv-loop μ-loop
-returns c = largest-decides _ _ _ _ (c .before .loop .inv .1) (let h = c .before .loop .inv .0 in let g = c .loop-test .left in omega arith)
+returns : tie.Need-returns
+returns c = largest-decides _ _ _ _ (c .top-of-any .ensures) refl
 
 pub entries-fit-spec : {M : Type 1} → statement M
-entries-fit-spec =
-    tie.close
-    (tie.spec
-    Inv-loop
-    μ-loop
-    loop-holds
-    (λ c. search needs)
-    (λ c κs. search needs)
-    (λ c κs. search needs)
-    (λ c. search needs)
-    (λ c. search needs)
-    loop-again
-    returns)
+entries-fit-spec = tie.close (tie.spec (λ c κs. search needs) returns)

@@ -1,0 +1,2 @@
+pub mod RunPolicies
+pub mod Permits

@@ -1,0 +1,1 @@
+// A board whose rules are compiled from sheets. Pure definitions and theorems.

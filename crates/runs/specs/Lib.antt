@@ -1,0 +1,4 @@
+pub mod Events
+pub mod Runs
+pub mod Verdicts
+pub mod Holding

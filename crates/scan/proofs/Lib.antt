@@ -1,0 +1,5 @@
+pub mod Parts
+pub mod Seeing
+pub mod Surveying
+pub mod Moving
+pub mod Scanning

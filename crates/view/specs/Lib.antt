@@ -1,0 +1,5 @@
+pub mod View
+pub mod Possible
+pub mod Moves
+pub mod Steps
+pub mod Calls
