@@ -35,7 +35,7 @@
  */
 #define LEMONDARTS_VERSION_MAJOR 4
 #define LEMONDARTS_VERSION_MINOR 6
-#define LEMONDARTS_VERSION_PATCH 1
+#define LEMONDARTS_VERSION_PATCH 2
 #define LEMONDARTS_VERSION "4.6.2"
 
 /* Lengths. An area may be longer; what stands behind these lengths is not touched. */

@@ -15,3 +15,4 @@ pub mod Refining
 pub mod Rising
 pub mod Splits
 pub mod Stable
+pub mod Shortest

@@ -21,11 +21,12 @@ module _ (mark states actions : ℕ) (next far : List ℕ) (m : Machine mark sta
   abbrev entry : ℕ → ℕ → ℕ
   entry s a = getD next (s * actions + a) mark
 
-  behind : (s a : ℕ) → s < states → a < actions → behindEntry next far (s * actions + a) ≡ getD far (entry s a) 0
+  -- the distance after an entry
+  pub behind : (s a : ℕ) → s < states → a < actions → behindEntry next far (s * actions + a) ≡ getD far (entry s a) 0
   behind s a h g = ap (λ (e : ℕ). getD far e 0) (getD-within next (s * actions + a) 0 mark (omega (arith, digits-lt h g, m .sized)))
 
   -- a trip has distance 0
-  mark-far : (e : ℕ) → e ≡ mark → getD far e 0 ≡ 0
+  pub mark-far : (e : ℕ) → e ≡ mark → getD far e 0 ≡ 0
   mark-far e p = List·getD-eq-default far 0 {n = e} (omega (arith, p, paired, m .marked))
 
   -- the second state is no further than the first, where that holds of nearer states

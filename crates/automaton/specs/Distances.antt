@@ -2,11 +2,13 @@
 -- one distance, so that refinement begins with the states split by theirs.
 -- Assumes nothing.
 use mathlib.Core.Path.{_≡_}
-use mathlib.Core.Bool.{cond}
+use mathlib.Core.Bool.{true, cond}
 use mathlib.Core.List.{List}
 use Prim.Native.Nat.{ℕ, suc, _+_, _*_, _≤_, _<_}
 use lib.Dec.{leb}
 use lib.ListN.{length, getD}
+use Rattle.trace.specs.Trace.{Sequence, trips}
+use Rattle.automaton.specs.Machine.{transition}
 
 -- The distance behind an entry: 0 for a trip, and that of the state that it leads to.
 abbrev pub behindEntry : (next far : List ℕ) → ℕ → ℕ
@@ -31,6 +33,14 @@ NotAbove actions next far s = (a : ℕ) → a < actions → getD far s 0 ≤ suc
 pub record Distances (actions : ℕ) (next far : List ℕ) : Type 0 where
   pub not-below : NotBelow actions next far
   pub not-above : (s : ℕ) → s < length far → NotAbove actions next far s
+
+-- A sequence of so many actions that trips from a state. `distance-reached` and `distance-least` (proofs/Shortest.antt): a distance below 255 is the
+-- length of one, and no sequence that trips is shorter than the distance.
+pub record Tripping (mark actions : ℕ) (next : List ℕ) (s count : ℕ) : Type 0 where
+  pub sequence : List ℕ
+  pub listed : Sequence actions sequence
+  pub trips-it : trips (transition mark actions next) s sequence ≡ true
+  pub long : length sequence ≡ count
 
 -- Two states have one number.
 abbrev pub SameNumber : List ℕ → ℕ → ℕ → Type 0

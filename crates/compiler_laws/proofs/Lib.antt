@@ -9,3 +9,4 @@ pub mod Unread
 pub mod NodesAlong
 pub mod BuiltAlong
 pub mod SpareNodes
+pub mod Answers

@@ -6,3 +6,4 @@ pub mod Sizes
 pub mod Spots
 pub mod Sticking
 pub mod Tokens
+pub mod PlainWords

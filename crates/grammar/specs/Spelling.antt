@@ -2,7 +2,7 @@
 -- spelled so; and each of them is found by its spelling.
 -- Assumes nothing.
 use mathlib.Core.Path.{_≡_}
-use mathlib.Core.Bool.{Bool, true, false, cond, _&&_}
+use mathlib.Core.Bool.{Bool, true, false, cond, _&&_, _||_}
 use mathlib.Core.List.{List, [], _∷_}
 use Prim.Native.Nat.{ℕ, _+_, _*_, _-_, _/_, _%_, _≤_}
 use Prim.Native.String.{String, [] as no-letter, _∷_ as _before_}
@@ -48,6 +48,10 @@ twoDigits a b = cond (isDigit a && (ltb 48 a && isDigit b)) (10 * (a - 48) + (b 
 
 abbrev pub valueOf : Word → ℕ
 valueOf w = cond (eqb (length w) 1) (oneDigit (getD w 0 0)) (cond (eqb (length w) 2) (twoDigits (getD w 0 0) (getD w 1 0)) 100)
+
+-- A lower-case letter or a digit: the bytes of the language's words.
+abbrev pub isPlain : ℕ → Bool
+isPlain byte = isDigit byte || (leb 97 byte && leb byte 122)
 
 -- 1 to 60; p and 0 to 15
 abbrev pub isNumber : Word → Bool

@@ -1,94 +1,167 @@
--- Groups first: tables joined in groups, and the results joined, give the table of all of them at once.
+-- Groups, and groups of groups: trees of joins with the same leaves give the same table, which is the conjunction of the leaves.
 -- Assumes nothing.
 use mathlib.Core.Path.{_≡_, refl, sym, _∙_, ap, ap₂, subst}
-use mathlib.Core.Bool.{Bool, _||_}
-use mathlib.Core.List.{List, _∷_, List·Memᴰ·head, List·Memᴰ·tail, List·Memᴰ·not-nil, List·Memᴰ·cases-cons, Memᴰ·append-left, Memᴰ·append-right}
-use mathlib.Core.Logic.{_⊎_, inl, inr}
-use Prim.Native.Nat.{ℕ, _≤_, _<_}
+use mathlib.Core.Bool.{Bool, true, false, _||_}
+use mathlib.Core.List.{List, [], _∷_, _++_, List·Memᴰ·head, List·Memᴰ·tail, List·Memᴰ·not-nil, List·Memᴰ·cases-cons, List·Memᴰ·append-cases, List·Memᴰ·eq-of-singleton, append-nil}
+use mathlib.Core.Logic.{_↔_, ⊎-elim}
+use Prim.Native.Nat.{ℕ, zero, suc, _≤_, _<_}
 use native.Mathlib.Omega.{arith}
 use Rattle.trace.specs.Trace.{Sequence, trips}
-use Rattle.table.specs.Table.{actionsOf, rowStep}
+use Rattle.trace.proofs.Laws.{not-both}
+use Rattle.table.specs.Table.{actionsOf, rowStep, Accepted, verdict}
 use Rattle.table.specs.Answer.{accepted}
-use Rattle.joining.specs.Tables.{tableAt, tablesIn}
+use Rattle.table.proofs.Verdicts.{equal-exactly-when-same-verdicts}
+use Rattle.joining.specs.Tables.{tableAt, tablesIn, listed, Fit}
 use Rattle.joining.specs.Meaning.{someTrips}
 use Rattle.joining.specs.Joins.{Joins}
 use Rattle.joining_laws.specs.Conjunction.{JoinedTable}
 use Rattle.joining_laws.specs.Sets.{Member, SameTables}
-use Rattle.joining_laws.specs.Groups.{Gives, single, joined, EachGives, none, more, ungrouped}
-use Rattle.joining_laws.proofs.SomeTrips.{or-none, some-append, listed-member, member-listed}
-use Rattle.joining_laws.proofs.JoinedTable.{joined-table, same-trips-same-table}
-use Rattle.joining_laws.proofs.Sets.{same-trips}
+use Rattle.joining_laws.specs.Boards.{StandsFor}
+use Rattle.joining_laws.specs.Groups.{Forest, none, leaf, node, Tree}
+use Rattle.joining_laws.proofs.SomeTrips.{same-truth, or-none, some-append, some-trips-member, member-trips, Tripping}
+use Rattle.joining_laws.proofs.Enforced.{denies-exactly}
+use Rattle.joining_laws.proofs.JoinedTable.{joined-table}
+use Rattle.joining_laws.proofs.JoinedBoard.{stands-for}
 
--- a table of a group, with as many actions as what the group gives
-record Within (groups : List (List (List ℕ))) (table : List ℕ) : Type 0 where
-  one : List ℕ
-  member : Member one (ungrouped groups)
-  acting : actionsOf one ≡ actionsOf table
+-- every table of a list is fit and has so many actions
+record Over (tables : List (List ℕ)) (actions : ℕ) : Type 0 where
+  fit : (table : List ℕ) → Member table tables → Fit table
+  acting : (table : List ℕ) → Member table tables → actionsOf table ≡ actions
 
-module _ {valueLimit rowLimit : ℕ} (small : rowLimit ≤ 64) where
-  -- what a group gives trips where one of the group does
-  gives-reads : {group : List (List ℕ)} {table : List ℕ} → Gives valueLimit rowLimit group table → (w : List ℕ) → Sequence (actionsOf table) w
-      → trips (rowStep table) 0 w ≡ someTrips group w
-  gives-reads (single table) w s = sym (or-none (trips (rowStep table) 0 w))
-  gives-reads (joined count input type actions rows written j) w s =
-      let t = joined-table small j in t .reads w (subst (λ (n : ℕ). Sequence n w) (t .actions-are) s)
+over-none : {actions : ℕ} → Over [] actions
+over-none = record { fit = λ t m. absurd (List·Memᴰ·not-nil m); acting = λ t m. absurd (List·Memᴰ·not-nil m) }
 
-  each-reads : {groups : List (List (List ℕ))} {tables : List (List ℕ)} → EachGives valueLimit rowLimit groups tables
-      → (w : List ℕ) → ((table : List ℕ) → Member table tables → Sequence (actionsOf table) w) → someTrips tables w ≡ someTrips (ungrouped groups) w
-  each-reads none w s = refl
-  each-reads (more {group} {table} {groups} {tables} g rest) w s =
-      ap₂ (λ (a b : Bool). a || b) (gives-reads g w (s table (List·Memᴰ·head refl))) (each-reads rest w (λ t m. s t (List·Memᴰ·tail m)))
-      ∙ sym (some-append w group (ungrouped groups))
+over-more : {table : List ℕ} {tables : List (List ℕ)} {actions : ℕ} → Fit table → actionsOf table ≡ actions → Over tables actions → Over (table ∷ tables) actions
+over-more {table} {tables} {actions} f e o =
+    record {
+      fit = λ t m. ⊎-elim (λ q. subst Fit (sym q) f) (o .fit t) (List·Memᴰ·cases-cons m);
+      acting = λ t m. ⊎-elim (λ q. ap actionsOf q ∙ e) (o .acting t) (List·Memᴰ·cases-cons m);
+    }
 
-  within : {group : List (List ℕ)} {table : List ℕ} → Gives valueLimit rowLimit group table → (groups : List (List (List ℕ))) → Within (group ∷ groups) table
-  within (single table) groups = record { one = table; member = List·Memᴰ·head refl; acting = refl }
-  within (joined count input type actions rows written j) groups = of (joined-table small j)
-    where
-      of : JoinedTable count input type actions rows written → Within (tablesIn count input ∷ groups) written
-      of t =
-          record {
-            one = tableAt input 0;
-            member = Memᴰ·append-left (ungrouped groups) (listed-member count (tableAt input) 0 (omega (arith, t .joinable .tables .counted .low)));
-            acting = t .joinable .each 0 (omega (arith, t .joinable .tables .counted .low)) ∙ sym (t .actions-are);
-          }
+over-both : {tables others : List (List ℕ)} {actions : ℕ} → Over tables actions → Over others actions → Over (tables ++ others) actions
+over-both {tables} o p =
+    record {
+      fit = λ t m. ⊎-elim (o .fit t) (p .fit t) (List·Memᴰ·append-cases tables m);
+      acting = λ t m. ⊎-elim (o .acting t) (p .acting t) (List·Memᴰ·append-cases tables m);
+    }
 
-  each-within : {groups : List (List (List ℕ))} {tables : List (List ℕ)} → EachGives valueLimit rowLimit groups tables → (table : List ℕ) → Member table tables → Within groups table
-  each-within none table m = absurd (List·Memᴰ·not-nil m)
-  each-within (more {group} {table = first} {groups} {tables} g rest) table m = by (each-within rest table) (List·Memᴰ·cases-cons m)
-    where
-      by : (Member table tables → Within groups table) → (table ≡ first) ⊎ Member table tables → Within (group ∷ groups) table
-      by later (inl e) = subst (Within (group ∷ groups)) (sym e) (within g groups)
-      by later (inr r) = let i = later r in record { one = i .one; member = Memᴰ·append-right group (i .member); acting = i .acting }
+-- leaves, and the tables that their trees give, of which each has so many actions
+record Stand (leaves tables : List (List ℕ)) (actions : ℕ) : Type 0 where
+  above : Over tables actions
+  below : Over leaves actions
+  some : leaves ≡ [] → tables ≡ []
+  reads : (w : List ℕ) → Sequence actions w → someTrips tables w ≡ someTrips leaves w
 
-  module _ {count count' : ℕ} {input input' : List ℕ} {groups : List (List (List ℕ))} (each : EachGives valueLimit rowLimit groups (tablesIn count' input'))
-      (same : SameTables (tablesIn count input) (ungrouped groups)) where
-    module _ {type actions rows type' actions' rows' : ℕ} {t u : List ℕ} (a : JoinedTable count input type actions rows t)
-        (b : JoinedTable count' input' type' actions' rows' u) where
-      -- the results have as many actions as the tables
-      one-number : actions' ≡ actions
-      one-number = sym (b .joinable .each 0 inside) ∙ sym (i .acting) ∙ ap actionsOf (at .2) ∙ a .joinable .each (at .0) (at .1)
-        where
-          inside : 0 < count'
-          inside = omega (arith, b .joinable .tables .counted .low)
+nil-left : (xs ys : List (List ℕ)) → xs ++ ys ≡ [] → xs ≡ []
+nil-left [] ys e = refl
+nil-left (x ∷ xs) ys e = cc
 
-          i : Within groups (tableAt input' 0)
-          i = each-within each (tableAt input' 0) (listed-member count' (tableAt input') 0 inside)
+module _ {n : ℕ} {leaves tables : List (List ℕ)} (rest : Stand leaves tables n) where
+  with-leaf : {table : List ℕ} → Fit table → actionsOf table ≡ n → Stand (table ∷ leaves) (table ∷ tables) n
+  with-leaf {table} f e =
+      record {
+        above = over-more f e (rest .above);
+        below = over-more f e (rest .below);
+        some = λ q. let z : _≡_ {A = ℕ} 0 1 = cc in absurd (omega arith);
+        reads = λ w s. ap (λ (b : Bool). trips (rowStep table) 0 w || b) (rest .reads w s);
+      }
 
-          at : (k : ℕ) × (k < count) × (i .one ≡ tableAt input k)
-          at = member-listed count (tableAt input) (same .in-one (i .one) (i .member))
+  with-node : {below : List (List ℕ)} {count : ℕ} {input : List ℕ} {type rows : ℕ} {written : List ℕ} → JoinedTable count input type n rows written
+      → Stand below (tablesIn count input) n → Stand (below ++ leaves) (written ∷ tables) n
+  with-node {below} {count} {input} {written = written} t under =
+      record {
+        above = over-more (record { accepted = t .accepted; enforced = t .enforced }) (t .actions-are) (rest .above);
+        below = over-both (under .below) (rest .below);
+        some = λ q. absurd (stands-for t .all .some (under .some (nil-left below leaves q)));
+        reads = λ w s. ap₂ (λ (a b : Bool). a || b) (t .reads w s ∙ under .reads w s) (rest .reads w s) ∙ sym (some-append w below leaves);
+      }
 
-      alike : (w : List ℕ) → Sequence actions w → someTrips (tablesIn count input) w ≡ someTrips (tablesIn count' input') w
-      alike w s = same-trips same w ∙ sym (each-reads each w acts)
-        where
-          acts : (table : List ℕ) → Member table (tablesIn count' input') → Sequence (actionsOf table) w
-          acts table m =
-              let k = member-listed count' (tableAt input') m in
-              subst (λ (n : ℕ). Sequence n w) (sym (ap actionsOf (k .2) ∙ b .joinable .each (k .0) (k .1) ∙ one-number)) s
+stand : {leaves tables : List (List ℕ)} → Forest leaves tables → (n : ℕ) → ((table : List ℕ) → Member table tables → actionsOf table ≡ n) → Stand leaves tables n
+stand none n acts = record { above = over-none; below = over-none; some = λ e. e; reads = λ w s. refl }
+stand (leaf table f rest) n acts = with-leaf (stand rest n (λ t m. acts t (List·Memᴰ·tail m))) f (acts table (List·Memᴰ·head refl))
+stand (node {below} {leaves} {tables} count input valueLimit rowLimit type actions rows written small j under rest) n acts =
+    with-node (stand rest n (λ t m. acts t (List·Memᴰ·tail m)))
+    (subst (λ (k : ℕ). JoinedTable count input type k rows written) one (joined-table small j))
+    (stand under n (λ t m. stands-for (joined-table small j) .all .acting t m ∙ one))
+  where
+    one : actions ≡ n
+    one = sym (joined-table small j .actions-are) ∙ acts written (List·Memᴰ·head refl)
 
-      both : t ≡ u
-      both = same-trips-same-table a (subst (λ (n : ℕ). JoinedTable count' input' type' n rows' u) one-number b) alike
+module _ {leaves : List (List ℕ)} {table : List ℕ} (t : Tree leaves table) where
+  own : Stand leaves (table ∷ []) (actionsOf table)
+  own = stand t (actionsOf table) (λ x m. ap actionsOf (List·Memᴰ·eq-of-singleton m))
 
-    -- Groups first: the join of what the groups give writes the same bytes as the join of all tables of all groups.
-    pub join-groups : {type actions rows type' actions' rows' : ℕ} {t u : List ℕ}
-        → Joins count input valueLimit rowLimit (accepted type actions rows) t → Joins count' input' valueLimit rowLimit (accepted type' actions' rows') u → t ≡ u
-    join-groups c d = both (joined-table small c) (joined-table small d)
+  -- What a tree gives is an accepted table.
+  pub tree-accepted : Accepted table
+  tree-accepted = own .above .fit table (List·Memᴰ·head refl) .accepted
+
+  -- It is enforced, as its leaves are, has their number of actions, and trips where at least one of them does.
+  pub tree-stands : StandsFor table leaves (actionsOf table)
+  tree-stands =
+      record {
+        all = record { some = λ e. let z = own .some e in absurd (let y : _≡_ {A = ℕ} 0 1 = cc in omega arith); enforced = λ x m. own .below .fit x m .enforced; acting = own .below .acting };
+        enforced = own .above .fit table (List·Memᴰ·head refl) .enforced;
+        acting = refl;
+        reads = λ w s. sym (or-none (trips (rowStep table) 0 w)) ∙ own .reads w s;
+      }
+
+  module _ (w : List ℕ) (q : Sequence (actionsOf table) w) where
+    denying : (verdict table w ≡ false) ↔ (trips (rowStep table) 0 w ≡ true)
+    denying = denies-exactly table w (tree-stands .enforced)
+
+    leaf-denies : {one : List ℕ} → Member one leaves → (verdict one w ≡ false) ↔ (trips (rowStep one) 0 w ≡ true)
+    leaf-denies {one} m = denies-exactly one w (tree-stands .all .enforced one m)
+
+    -- It denies exactly where at least one of the leaves denies.
+    pub tree-denies : (verdict table w ≡ false) ↔ ((one : List ℕ) × Member one leaves × (verdict one w ≡ false))
+    tree-denies = (
+      λ e. there (some-trips-member w leaves .0 (sym (tree-stands .reads w q) ∙ denying .0 e)),
+      λ p. denying .1 (tree-stands .reads w q ∙ member-trips w (p .1) (leaf-denies (p .1) .0 (p .2))),
+    )
+      where
+        there : Tripping w leaves → (one : List ℕ) × Member one leaves × (verdict one w ≡ false)
+        there f = (f .table, f .member, leaf-denies (f .member) .1 (f .trips-it))
+
+    -- It is satisfied exactly where all of the leaves are.
+    pub tree-verdict : (verdict table w ≡ true) ↔ ((one : List ℕ) → Member one leaves → verdict one w ≡ true)
+    tree-verdict =
+        (λ e one m. holds (verdict one w) (λ d. not-both (sym e ∙ tree-denies .1 (one, m, d))), λ all. holds (verdict table w) (λ d. none-denies all (tree-denies .0 d)))
+      where
+        holds : (b : Bool) → (b ≡ false → ⊥) → b ≡ true
+        holds true f = refl
+        holds false f = absurd (f refl)
+
+        none-denies : ((one : List ℕ) → Member one leaves → verdict one w ≡ true) → (one : List ℕ) × Member one leaves × (verdict one w ≡ false) → ⊥
+        none-denies all (one, m, d) = not-both (sym (all one m) ∙ d)
+
+-- Trees with the same leaves, in whatever groups and order, however often a leaf stands there, and under whatever limits, give the same bytes.
+pub join-groups : {leaves others : List (List ℕ)} {t u : List ℕ} → Tree leaves t → Tree others u → SameTables leaves others → t ≡ u
+join-groups {leaves} {others} {t} {u} a b s =
+    equal-exactly-when-same-verdicts t u (tree-accepted a) (tree-accepted b) one-number .1 (record { same = same })
+  where
+    first : (xs : List (List ℕ)) → (xs ≡ [] → ⊥) → (x : List ℕ) × Member x xs
+    first [] n = absurd (n refl)
+    first (x ∷ xs) n = (x, List·Memᴰ·head refl)
+
+    one-number : actionsOf t ≡ actionsOf u
+    one-number =
+        let (x, m) = first leaves (tree-stands a .all .some) in sym (tree-stands a .all .acting x m) ∙ tree-stands b .all .acting x (s .in-other x m)
+
+    same : (w : List ℕ) → Sequence (actionsOf t) w → verdict t w ≡ verdict u w
+    same w q =
+        same-truth (verdict t w) (verdict u w) (λ e. tree-verdict b w q' .1 (λ x m. tree-verdict a w q .0 e x (s .in-one x m)))
+        (λ e. tree-verdict a w q .1 (λ x m. tree-verdict b w q' .0 e x (s .in-other x m)))
+      where
+        q' : Sequence (actionsOf u) w
+        q' = subst (λ (n : ℕ). Sequence n w) one-number q
+
+leaves-of : (n : ℕ) (f : ℕ → List ℕ) → ((i : ℕ) → i < n → Fit (f i)) → Forest (listed n f) (listed n f)
+leaves-of zero f fit = none
+leaves-of (suc n) f fit = leaf (f 0) (fit 0 (omega arith)) (leaves-of n (λ i. f (suc i)) (λ i h. fit (suc i) (omega arith)))
+
+-- A join by itself is a tree, whose leaves are its tables.
+pub join-tree : {count : ℕ} {input : List ℕ} {valueLimit rowLimit type actions rows : ℕ} {written : List ℕ} → rowLimit ≤ 64
+    → Joins count input valueLimit rowLimit (accepted type actions rows) written → Tree (tablesIn count input) written
+join-tree {count} {input} {valueLimit} {rowLimit} {type} {actions} {rows} {written} small j =
+    subst (λ (leaves : List (List ℕ)). Tree leaves written) (append-nil (tablesIn count input))
+    (node count input valueLimit rowLimit type actions rows written small j (leaves-of count (tableAt input) (joined-table small j .joinable .tables .fit)) none)

@@ -96,18 +96,6 @@ module _ {count : ℕ} {input : List ℕ} {type actions rows : ℕ} {written : L
           at w s =
               same-truth (verdict written w) (verdict table w) (λ e. v .same w s .1 (satisfied-by-all t w s .0 e)) (λ e. satisfied-by-all t w s .1 (v .same w s .0 e))
 
--- Joined tables that trip on the same sequences are one.
-pub same-trips-same-table : {count count' : ℕ} {input input' : List ℕ} {type type' actions rows rows' : ℕ} {t u : List ℕ}
-    → JoinedTable count input type actions rows t → JoinedTable count' input' type' actions rows' u
-    → ((w : List ℕ) → Sequence actions w → someTrips (tablesIn count input) w ≡ someTrips (tablesIn count' input') w) → t ≡ u
-same-trips-same-table {actions = actions} {t = t} {u = u} a b same =
-    equal-exactly-when-same-verdicts t u (a .accepted) (b .accepted) (a .actions-are ∙ sym (b .actions-are)) .1 (record { same = λ w s. at w (in-actions a w s) })
-  where
-    at : (w : List ℕ) → Sequence actions w → verdict t w ≡ verdict u w
-    at w s =
-        enforced-verdict (typeOf t) (trips (rowStep t) 0 w) (a .enforced) ∙ ap not (a .reads w s ∙ same w s ∙ sym (b .reads w s))
-        ∙ sym (enforced-verdict (typeOf u) (trips (rowStep u) 0 w) (b .enforced))
-
 module _ {valueLimit rowLimit : ℕ} (small : rowLimit ≤ 64) {count : ℕ} {input : List ℕ} {type actions rows : ℕ} {written : List ℕ}
     (j : Joins count input valueLimit rowLimit (accepts type actions rows) written) where
   -- The table of a join is satisfied after a sequence exactly when all of its tables are.

@@ -77,10 +77,6 @@ module _ {tables others : List (List ℕ)} (s : SameTables tables others) {actio
   rows-of r =
       record { low = r .low; machine = r .machine; numbered = r .numbered; distinct = r .distinct; reads = λ w p. r .reads w p ∙ same-trips s w }
 
--- A list has the same tables as itself.
-pub same-list : {tables others : List (List ℕ)} → tables ≡ others → SameTables tables others
-same-list e = record { in-other = λ t m. subst (Member t) e m; in-one = λ t m. subst (Member t) (sym e) m }
-
 -- Having the same tables goes both ways.
 pub turned : {tables others : List (List ℕ)} → SameTables tables others → SameTables others tables
 turned s = record { in-other = s .in-one; in-one = s .in-other }

@@ -3,20 +3,26 @@
 -- Assumes nothing.
 use mathlib.Core.Path.{_≡_, refl, sym, ap, subst}
 use mathlib.Core.List.{List, [], _∷_, _++_, reverse}
+use mathlib.Core.Logic.{_↔_}
 use Prim.Native.Nat.{ℕ}
 use native.Mathlib.Omega.{arith}
 use lib.ListN.{getD}
 use Rattle.table.specs.Answer.{accepted}
-use Rattle.making.specs.Making.{short, makes}
+use Rattle.making.specs.Making.{AreasFor, short, makes}
+use Rattle.syntax.specs.declared.Sheet.{Sheet}
 use Rattle.compiler.specs.Compiles.{Compiles}
 use Rattle.runs.specs.Events.{Event}
-use Rattle.runs.specs.Holding.{PutsOnly, ActsOnly}
+use Rattle.runs.specs.Holding.{Holds, PutsOnly, ActsOnly}
+use Rattle.runs.proofs.Holding.{run-puts-hold}
+use Rattle.runs.proofs.Reports.{beginning}
+use Rattle.histories.proofs.HistoryRun.{history-run}
 use Rattle.explaining.specs.Explains.{Explanation, no-denial, denied, refused, Explains}
 use Rattle.explaining.specs.Calling.{ExplainsInto}
+use Rattle.explaining_laws.specs.Answers.{Explainable}
 use Rattle.explaining_laws.specs.Boards.{AllPermitted, DeniedAfter}
 use Rattle.explaining_laws.proofs.Spots.{RefusalFits, explain-refusal-fits, explain-denial-fits}
-use Rattle.explaining_laws.proofs.Calls.{place-in-output}
-use Rattle.explaining_laws.proofs.ExplainedBoard.{new-board-permits, new-board-denies}
+use Rattle.explaining_laws.proofs.Calls.{explain-call-answers, place-in-output}
+use Rattle.explaining_laws.proofs.ExplainedBoard.{new-board-permits, new-board-denies, board-permits-exactly, board-denies-exactly}
 use Rattle.answers.specs.Explanations.{packedExplanation}
 use Rattle.lemondarts.specs.Session.{numberIn, valueIn, Session}
 use Rattle.lemondarts.specs.Explaining.{ExplainReturns}
@@ -85,3 +91,30 @@ module _ {bytes list place work values : List ℕ} {returned : ℕ} {place' work
 
     pub session-denies : numberIn returned ≡ 255 → DeniedAfter table later puts (getD place' 0 0)
     session-denies is = new-board-denies (omega arith) c puts p acts (session-history s .history) (explain-denied is .1)
+
+    -- For an enforced sheet and a list of its actions, and areas that are long enough: 0 is returned exactly when that board permits every action of
+    -- the list, and 255 with a place in the lent list exactly when it permits those before the place and denies the one there.
+    module _ (areas : AreasFor 1 place work values) {sheet : Sheet} (can : Explainable bytes list 1024 64 sheet) where
+      given : (t : List ℕ) × Explains bytes list 1024 64 (r .answer) t
+      given = explain-call-answers areas (r .explains)
+
+      holds : Holds puts (table ∷ []) []
+      holds = run-puts-hold p (beginning later puts (history-run (session-history s .history)) .1)
+
+      pub session-permits-exactly : (numberIn returned ≡ 0) ↔ AllPermitted later
+      session-permits-exactly = (
+        session-permits,
+        λ all. subst (λ (x : Explanation). SaysOf x returned) (board-permits-exactly (omega arith) c puts holds acts (session-history s .history) can (given .1) .1 all) says,
+      )
+
+      pub session-denies-exactly : (at : ℕ) → ((numberIn returned ≡ 255) × (getD place' 0 0 ≡ at)) ↔ DeniedAfter table later puts at
+      session-denies-exactly at = (
+        λ q. subst (DeniedAfter table later puts) (q .1) (session-denies (q .0)),
+        λ d. back (board-denies-exactly (omega arith) c puts holds acts (session-history s .history) can (given .1) at .1 d),
+      )
+        where
+          back : (node : ℕ) × (r .answer ≡ denied at node) → (numberIn returned ≡ 255) × (getD place' 0 0 ≡ at)
+          back (node, e) = (
+            subst (λ (x : Explanation). SaysOf x returned) e says .0,
+            ap (λ (l : List ℕ). getD l 0 0) (place-in-output (subst (λ (x : Explanation). ExplainsInto bytes list place work values x place' work' values') e (r .explains))),
+          )

@@ -4,6 +4,8 @@ pub mod Answers
 pub mod Sessions
 pub mod Spots
 pub mod TextNumbers
+pub mod TextRefusals
+pub mod CompiledTables
 pub mod SessionLaws
 pub mod SessionTexts
 pub mod PutTexts

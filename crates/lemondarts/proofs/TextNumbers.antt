@@ -37,7 +37,8 @@ written-low call =
     let some = may .some-actions .few in
     (omega arith, omega arith, omega arith)
 
-refused-low : {text actions sheet sheet' : List ℕ} {number spot : ℕ} → ReadsInto text actions sheet (refused number spot) sheet'
+-- A refusal's number is 1 to 33, and its spot 512 at most.
+pub refused-low : {text actions sheet sheet' : List ℕ} {number spot : ℕ} → ReadsInto text actions sheet (refused number spot) sheet'
     → (1 ≤ number) × (number ≤ 33) × (spot ≤ 512)
 refused-low (short h) = (omega arith, omega arith, omega arith)
 refused-low (no-actions h n) = (omega arith, omega arith, omega arith)

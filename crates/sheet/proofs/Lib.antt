@@ -8,3 +8,4 @@ pub mod Written
 pub mod NodeBack
 pub mod ReadBack
 pub mod Unread
+pub mod Malformed

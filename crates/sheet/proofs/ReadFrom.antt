@@ -62,7 +62,8 @@ one-node bytes n x y p q = listed (right-same (sym p ∙ q))
     right-same : {a b : Node} → Known (Right a) ≡ Known (Right b) → a ≡ b
     right-same e = cc
 
-as-read : {read : NodesRead} {n : ℕ} {nodes : List ListedNode} → read .judged ≡ Sound → read .count ≡ n → read .nodes ≡ nodes → read ≡ allRead n nodes
+-- what is read, by its parts
+pub as-read : {read : NodesRead} {n : ℕ} {nodes : List ListedNode} → read .judged ≡ Sound → read .count ≡ n → read .nodes ≡ nodes → read ≡ allRead n nodes
 as-read j k l = λ i. record { judged = j i; count = k i; nodes = l i }
 
 module _ (bytes : List ℕ) where
@@ -107,11 +108,10 @@ module _ (bytes : List ℕ) where
     judge-from = ap (judgeLaid bytes) (laid bytes (r .laid)) ∙ rw (← r .actions, ← r .count, actions-from, nodes-from)
 
   -- what is read where the areas are found and every node is right
-  read-sheet : (actions count : ℕ) → Sheet
+  abbrev pub read-sheet : (actions count : ℕ) → Sheet
   read-sheet actions count = record { actions = actions; propositions = readActions bytes actions; count = count; nodes = readNodes bytes count .nodes }
 
-  read-all : {actions count p q : ℕ} → layoutOf bytes ≡ Laid actions count p q → readNodes bytes count .judged ≡ Sound → ReadFrom bytes (read-sheet actions count)
-  unfolding read-sheet
+  pub read-all : {actions count p q : ℕ} → layoutOf bytes ≡ Laid actions count p q → readNodes bytes count .judged ≡ Sound → ReadFrom bytes (read-sheet actions count)
   read-all {actions} {count} e s =
       let h = from-laid bytes e in
       let k : readNodes bytes count .count ≡ count = subst (λ (j : Judged). CountedAs j (readNodes bytes count .count) count) s (counted bytes count) in
@@ -134,7 +134,6 @@ module _ (bytes : List ℕ) where
   -- bytes that are judged sound
   module _ {m : Mode} {sheet : Sheet} {types : List TypedNode} where
     read-laid : (l : Layout) → layoutOf bytes ≡ l → judgeLaid bytes l ≡ sound m sheet types → ReadFrom bytes sheet
-    unfolding read-sheet
     read-laid (Misplaced f) p e = not-sound e
     read-laid (Laid actions count from-a from-n) p e =
         let h = all-read (readNodes bytes count .judged) (read-sheet actions count) e in

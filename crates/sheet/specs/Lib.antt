@@ -3,3 +3,4 @@ pub mod Reading
 pub mod ReadFrom
 pub mod Judge
 pub mod Writing
+pub mod Malformed
