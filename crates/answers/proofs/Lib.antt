@@ -1,2 +1,1 @@
-pub mod CaseNumbers
 pub mod ByCase

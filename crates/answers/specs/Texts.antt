@@ -1,7 +1,7 @@
 -- The answers of the reader of rule texts as numbers.
 -- Assumes nothing.
 use Prim.Native.Nat.{ℕ}
-use Rattle.text_reader.specs.Calling.{TextAnswer, written, refused}
+use Rattle.parser.specs.Calling.{TextAnswer, written, refused}
 use Rattle.answers.specs.Numbers.{pack}
 
 -- For a sheet 0, its length in bytes, its actions and its nodes; for a refusal its number and spot.

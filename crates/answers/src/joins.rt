@@ -1,5 +1,5 @@
 // The answers of joining as numbers.
-use crate::numbers::table_number;
+use crate::tables::table_number;
 use joining::Joined;
 use trace::Mode;
 ghost use mathlib.Core.Path.{_≡_};

@@ -1,8 +1,8 @@
 // The answers of the reader of rule texts as numbers.
 use base::pack;
-use text_reader::TextRead;
+use parser::TextRead;
 ghost use mathlib.Core.Path.{_≡_};
-ghost use Rattle.text_reader.specs.Calling.{answerOf};
+ghost use Rattle.parser.specs.Calling.{answerOf};
 ghost use Rattle.answers.specs.Texts.{packedText};
 
 pub fn text_number(answer: TextRead) -> u64

@@ -1,3 +1,1 @@
 pub mod Replies
-pub mod Asking
-pub mod Targets

@@ -1,14 +1,12 @@
--- The answers of the board's four calls in the numbers and values of docs/FORMATS.md, "Refusals", one line a case.
+-- The answers of making a board, putting on and taking off in the numbers and values of docs/FORMATS.md, "Refusals", one line a case.
 -- Assumes nothing.
-use Rattle.view.specs.Steps.{Reply, done, permitted, denied, input, state}
+use Rattle.view.specs.Steps.{Reply, done, input, state}
 use Rattle.board.specs.declared.Made.{Made}
 use Rattle.board.specs.declared.Made.the-variants as made
 use Rattle.board.specs.declared.Put.{Put}
 use Rattle.board.specs.declared.Put.the-variants as put
 use Rattle.board.specs.declared.Take.{Take}
 use Rattle.board.specs.declared.Take.the-variants as take
-use Rattle.board.specs.declared.Act.{Act}
-use Rattle.board.specs.declared.Act.the-variants as act
 
 abbrev pub madeReply : Made → Reply
 madeReply made.Board = done
@@ -30,11 +28,3 @@ takeReply take.ShortArea = input 14 0
 takeReply take.NoPlace = input 13 0
 takeReply take.Impossible = state 25
 takeReply take.EmptyPlace = state 21
-
-abbrev pub actReply : Act → Reply
-actReply (act.Permitted fulfilled) = permitted fulfilled
-actReply (act.Denied place) = denied place
-actReply act.ShortArea = input 14 0
-actReply act.Impossible = state 25
-actReply act.EmptyBoard = state 24
-actReply act.NoAction = input 12 0

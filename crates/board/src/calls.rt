@@ -5,19 +5,16 @@ use crate::Put;
 use crate::PutOn;
 use crate::Take;
 use crate::TakenOff;
+use board_checks::Target;
+use board_checks::look_at;
 use places::AREA_LENGTH;
 use places::Board;
 use places::Case;
-use places::PLACES;
-use places::case_at;
 use places::empty_board;
-use places::taken;
 use places::with_case;
 use places::write_place;
 use scan::Found;
 use scan::admits;
-use scan::impossible;
-use scan::scan;
 use table::Loaded;
 use trace::Mode;
 ghost use mathlib.Core.Path.{_≡_};
@@ -25,17 +22,8 @@ ghost use Rattle.table.specs.Answer.{modeNumber};
 ghost use Rattle.view.specs.Moves.{firstCase};
 ghost use Rattle.view.specs.Steps.{put-on, take-off};
 ghost use Rattle.view.specs.Calls.{Calls, Makes};
+ghost use Rattle.board_checks.specs.Targets.{EmptyTarget};
 ghost use Rattle.board.specs.Replies.{madeReply, putReply, takeReply};
-ghost use Rattle.board.specs.Targets.{EmptyTarget, Looks};
-
-// What a call finds at the place that it names, in the order 14, 13, 25.
-pub enum Target {
-    ShortArea,
-    NoPlace,
-    Impossible,
-    Taken,
-    Empty(Found),
-}
 
 // An empty board and a zeroed area.
 pub fn new_board(area: &mut [u8]) -> NewBoard
@@ -55,29 +43,6 @@ pub fn new_board(area: &mut [u8]) -> NewBoard
     }
 }
 
-// Looks at the area, the place's number, the whole board, and then the place.
-fn look_at(board: Board, area: &[u8], place: usize) -> Target
-    ensures { λ r. ⌜ Looks board (now (area .entry)) place r ⌝ }
-{
-    if area.len() < AREA_LENGTH {
-        return Target::ShortArea;
-    }
-    if PLACES <= place {
-        return Target::NoPlace;
-    }
-    let scanned = scan(board, area, 0);
-    let found = scanned.found;
-    let cannot_be = impossible(found);
-    let on = taken(case_at(board, place));
-    if cannot_be {
-        return Target::Impossible;
-    }
-    if on {
-        return Target::Taken;
-    }
-    Target::Empty(found)
-}
-
 // The case that a table starts in, by its type.
 fn first_case(mode: Mode) -> Case
     ensures { λ r. ⌜ r ≡ firstCase (modeNumber mode) ⌝ }
@@ -93,7 +58,7 @@ fn put_table(board: Board, area: &mut [u8], place: usize, table: &[u8], found: F
     requires { ⌜ EmptyTarget board (now area) place found ⌝ }
     ensures { λ r. ⌜ Calls board (now (area .entry)) (put-on place (now (table .entry))) (putReply (r .answer)) (r .board) (now (area .exit)) ⌝ }
 {
-    match table::load(table) {
+    match loader::load(table) {
         Loaded::Malformed => PutOn {
             answer: Put::Malformed,
             board,

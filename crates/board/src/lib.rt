@@ -1,9 +1,6 @@
-// The board: up to eight tables that permit or deny each action.
-
-mod actions;
+// The calls of the board that make it, put a table on and take one off.
 mod calls;
 
-pub use actions::action;
 pub use calls::new_board;
 pub use calls::put_on;
 pub use calls::take_off;
@@ -34,15 +31,6 @@ pub enum Take {
     EmptyPlace,
 }
 
-pub enum Act {
-    Permitted(u8),
-    Denied(usize),
-    ShortArea,
-    Impossible,
-    EmptyBoard,
-    NoAction,
-}
-
 // An answer, with the board after the call.
 pub struct NewBoard {
     pub answer: Made,
@@ -56,10 +44,5 @@ pub struct PutOn {
 
 pub struct TakenOff {
     pub answer: Take,
-    pub board: Board,
-}
-
-pub struct Acted {
-    pub answer: Act,
     pub board: Board,
 }

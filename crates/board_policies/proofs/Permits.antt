@@ -8,18 +8,18 @@ use Rattle.table.specs.Table.{typeOf}
 use Rattle.view.specs.Steps.{act, Reply, permitted}
 use Rattle.view.specs.Calls.{Calls}
 use Rattle.runs.specs.Events.{Event, rule, onPlace}
-use Rattle.histories.specs.History.{History}
-use Rattle.runs.specs.Verdicts.{Listed, IsPermitted}
+use Rattle.board_laws.specs.History.{History}
+use Rattle.runs.specs.Verdicts.{ActionListed, IsPermitted}
 use Rattle.base.specs.Sets.{Member}
 use Rattle.places.specs.declared.Board.{Board}
 use Rattle.board_policies.specs.Policies.{CompiledFrom, EnforcedSheets, NonePolicyViolated, FirstSatisfied}
 use Rattle.board_policies.proofs.RunPolicies.{run-permit-by-policies, run-fulfilled-by-policies}
-use Rattle.histories.proofs.HistoryRun.{history-run, call-held}
+use Rattle.board_laws.proofs.HistoryRun.{history-run, call-held}
 
 module _ {events : List Event} {board : Board} {area : List ℕ} (h : History events board area) where
   -- Where each enforced rule on is compiled from a sheet, an action of the list is permitted exactly when no enforced policy is violated by the
   -- actions permitted since its rule was put on, followed by this one.
-  pub permit-by-policies : (sheets : EnforcedSheets events) {action : ℕ} → Listed events action → {reply : Reply} {next : Board} {rest : List ℕ}
+  pub permit-by-policies : (sheets : EnforcedSheets events) {action : ℕ} → ActionListed events action → {reply : Reply} {next : Board} {rest : List ℕ}
       → Calls board area (act action) reply next rest → IsPermitted reply ↔ NonePolicyViolated events sheets action
   permit-by-policies sheets l p = run-permit-by-policies (history-run h) sheets l (call-held h p)
 

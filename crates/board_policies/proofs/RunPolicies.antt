@@ -12,7 +12,7 @@ use Rattle.view.specs.View.{View, Change}
 use Rattle.view.specs.Steps.{act, Reply, permitted}
 use Rattle.runs.specs.Runs.{StepOn, Run}
 use Rattle.runs.specs.Events.{Event, rule, onPlace}
-use Rattle.runs.specs.Verdicts.{Listed, IsPermitted, FirstFulfilled}
+use Rattle.runs.specs.Verdicts.{ActionListed, IsPermitted, FirstFulfilled}
 use Rattle.base.specs.Sets.{Member}
 use Rattle.board_policies.specs.Policies.{CompiledFrom, EnforcedSheets, satisfiesSheet, NonePolicyViolated, FirstSatisfied}
 use Rattle.runs.proofs.Places.{same-table, same-since, keeps}
@@ -28,7 +28,7 @@ sequence-front actions (a ∷ v) w s = (s .0, sequence-front actions v w (s .1))
 -- a compiled table's verdict is its policy's
 same-verdict : {table : List ℕ} (f : CompiledFrom table) (w : List ℕ) → Sequence (actionsOf table) w → verdict table w ≡ satisfiesSheet (f .sheet) w
 same-verdict f w s =
-    let t = compiled-table (f .bytes) (f .valueLimit) (f .rowLimit) (f .few) (f .read) (f .compiles) in
+    let t = compiled-table (f .bytes) (f .limits) (f .few) (f .read) (f .compiles) in
     t .verdicts w (subst (λ (n : ℕ). Sequence n w) (t .actions-are ∙ t .listed) s)
 
 module _ {events : List Event} {view : View} (r : Run events view) where
@@ -37,7 +37,7 @@ module _ {events : List Event} {view : View} (r : Run events view) where
   sequence-since i table since on = keeps (run-state r) i table since on .sequence
 
   -- and so with one more
-  sequence-more : {action : ℕ} → Listed events action → (i : ℕ) (table since : List ℕ) → onPlace events i ≡ rule table since
+  sequence-more : {action : ℕ} → ActionListed events action → (i : ℕ) (table since : List ℕ) → onPlace events i ≡ rule table since
       → Sequence (actionsOf table) (since ++ (action ∷ []))
   sequence-more {action} l i table since on = sequence-append (actionsOf table) since (action ∷ []) (sequence-since i table since on) (below, tt)
     where
@@ -46,7 +46,7 @@ module _ {events : List Event} {view : View} (r : Run events view) where
 
   -- Where each enforced rule on is compiled from a sheet, an action of the list is permitted exactly when no enforced policy is violated by the
   -- actions permitted since its rule was put on, followed by this one.
-  pub run-permit-by-policies : (sheets : EnforcedSheets events) {action : ℕ} → Listed events action → {places : ℕ} {reply : Reply} {change : Change}
+  pub run-permit-by-policies : (sheets : EnforcedSheets events) {action : ℕ} → ActionListed events action → {places : ℕ} {reply : Reply} {change : Change}
       → StepOn places view (act action) reply change → IsPermitted reply ↔ NonePolicyViolated events sheets action
   run-permit-by-policies sheets {action} l p = (
     λ q i table since on t. sym (same i table since on t) ∙ run-permit-exactly r l p .0 q i table since on t,

@@ -4,6 +4,7 @@ use mathlib.Core.Path.{_≡_}
 use mathlib.Core.Bool.{Bool, true, false}
 use mathlib.Core.List.{List, [], _∷_, _++_}
 use Prim.Native.Nat.{ℕ, _≤_}
+use Rattle.limits.specs.declared.Limits.{Limits}
 use Rattle.policy.specs.Policy.{satisfies}
 use Rattle.table.specs.Table.{typeOf}
 use Rattle.table.specs.Answer.{accepted}
@@ -19,13 +20,12 @@ pub record CompiledFrom (table : List ℕ) : Type 0 where
   pub bytes : List ℕ
   pub sheet : Sheet
   pub read : ReadAs bytes sheet
-  pub valueLimit : ℕ
-  pub rowLimit : ℕ
-  pub few : rowLimit ≤ 64
+  pub limits : Limits
+  pub few : limits .rows ≤ 64
   pub type : ℕ
   pub actions : ℕ
   pub rows : ℕ
-  pub compiles : Compiles bytes valueLimit rowLimit (accepted type actions rows) table
+  pub compiles : Compiles bytes limits (accepted type actions rows) table
 
 -- A sheet for each enforced rule on the board.
 abbrev pub EnforcedSheets : List Event → Type 0

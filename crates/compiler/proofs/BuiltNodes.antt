@@ -8,6 +8,7 @@ use native.Mathlib.Omega.{arith}
 use lib.ListN.{take}
 use Rattle.trace.specs.declared.Mode.{Mode}
 use Rattle.trace.specs.Trace.{Sequence, Step, go, run}
+use Rattle.limits.specs.declared.Limits.{Limits}
 use Rattle.automaton.specs.Minimal.{RowsOf}
 use Rattle.policy.specs.Rule.{ruleOf}
 use Rattle.policy.specs.Closed.{answer}
@@ -45,14 +46,14 @@ pub policy-node : {mode : Mode} {sheet : Sheet} {types : List TypedNode} → Sou
     → {m : Mode} {k : Bound} → typeAt types n ≡ Policy m k → PolicyNode sheet types n
 policy-node right n h {m} {k} e = record { used = typed-used right n h (typed-policy e); mode = m; bound = k; is = e }
 
-module _ {mode : Mode} {sheet : Sheet} {types : List TypedNode} (right : SoundSheet mode sheet types) (valueLimit rowLimit : ℕ) (small : rowLimit ≤ 64)
-    (n : ℕ) (within : n ≤ sheet .count) (work : List ℕ) (built : BuiltTo (sheetRules sheet types) (sheet .actions) valueLimit rowLimit n work) where
+module _ {mode : Mode} {sheet : Sheet} {types : List TypedNode} (right : SoundSheet mode sheet types) (limits : Limits) (small : limits .rows ≤ 64)
+    (n : ℕ) (within : n ≤ sheet .count) (work : List ℕ) (built : BuiltTo (sheetRules sheet types) (sheet .actions) limits n work) where
   abbrev A : ℕ
   A = sheet .actions
 
   -- the rows that stand in the slots
   abbrev pub tables : Tables
-  tables = slotTables (sheetRules sheet types) A valueLimit rowLimit n work built
+  tables = slotTables (sheetRules sheet types) A limits n work built
 
   -- a policy node i, up to n, whose parts have their rows
   module _ (i : ℕ) (low : i ≤ n) (here : i < sheet .count) (policy : PolicyNode sheet types i)
@@ -67,7 +68,7 @@ module _ {mode : Mode} {sheet : Sheet} {types : List TypedNode} (right : SoundSh
     slots j e =
         let b = e .before in
         let l = policy-right sheet (λ k. Unit {0}) types right j (omega arith) (λ k p. tt) (e .is) in
-        slot-part (sheetRules sheet types) A valueLimit rowLimit n work built j (omega arith) (l .code) (l .is)
+        slot-part (sheetRules sheet types) A limits n work built j (omega arith) (l .code) (l .is)
 
     abbrev step : Step ℕ
     step = codeStep A work (lowered .code)
@@ -79,24 +80,24 @@ module _ {mode : Mode} {sheet : Sheet} {types : List TypedNode} (right : SoundSh
     runs : (w : List ℕ) → Sequence A w → run step (go first) w ≡ answer (tripsNode sheet i w) (encode (ruleOn sheet tables i) (rememberedAt sheet tables i w))
     runs = codes sheet types i facts lowered tables before work slots
 
-    over-values : OverReached A step first valueLimit → OverValues sheet tables i valueLimit
-    over-values = machine.over-values A (tripsNode sheet i) (rememberedAt sheet tables i) (encode (ruleOn sheet tables i)) step first runs valueLimit
+    over-values : OverReached A step first (limits .values) → OverValues sheet tables i (limits .values)
+    over-values = machine.over-values A (tripsNode sheet i) (rememberedAt sheet tables i) (encode (ruleOn sheet tables i)) step first runs (limits .values)
 
-    few-values : (OverReached A step first valueLimit → ⊥) → OverValues sheet tables i valueLimit → ⊥
+    few-values : (OverReached A step first (limits .values) → ⊥) → OverValues sheet tables i (limits .values) → ⊥
     few-values =
         machine.not-over-values A (tripsNode sheet i) (rememberedAt sheet tables i) (encode (ruleOn sheet tables i)) step first runs
-        (injective sheet types i facts lowered tables before) valueLimit
+        (injective sheet types i facts lowered tables before) (limits .values)
 
-    over-rows : OverStates A step first rowLimit → OverRows sheet i rowLimit
-    over-rows = machine.over-rows A (tripsNode sheet i) (rememberedAt sheet tables i) (encode (ruleOn sheet tables i)) step first runs rowLimit
+    over-rows : OverStates A step first (limits .rows) → OverRows sheet i (limits .rows)
+    over-rows = machine.over-rows A (tripsNode sheet i) (rememberedAt sheet tables i) (encode (ruleOn sheet tables i)) step first runs (limits .rows)
 
-    rows-are : (rows : ℕ) (entries : List ℕ) → RowsFor A step first rowLimit rows entries → RowsOf A (tripsNode sheet i) rows entries
-    rows-are = machine.rows-of A (tripsNode sheet i) (rememberedAt sheet tables i) (encode (ruleOn sheet tables i)) step first runs rowLimit
+    rows-are : (rows : ℕ) (entries : List ℕ) → RowsFor A step first (limits .rows) rows entries → RowsOf A (tripsNode sheet i) rows entries
+    rows-are = machine.rows-of A (tripsNode sheet i) (rememberedAt sheet tables i) (encode (ruleOn sheet tables i)) step first runs (limits .rows)
 
     -- a node whose slot is built is inside the limits
-    is-built : i < n → Built sheet tables valueLimit rowLimit i
+    is-built : i < n → Built sheet tables limits i
     is-built h =
-        let t = slot-table (sheetRules sheet types) A valueLimit rowLimit n work built i h (lowered .code) (lowered .is) in
+        let t = slot-table (sheetRules sheet types) A limits n work built i h (lowered .code) (lowered .is) in
         record {
           few-values = few-values (t .0 .few-values);
           rows = t .0 .rows;
@@ -105,23 +106,23 @@ module _ {mode : Mode} {sheet : Sheet} {types : List TypedNode} (right : SoundSh
         }
 
   -- by induction, every policy node before n is
-  built-below : (m i : ℕ) → i < m → i < n → PolicyNode sheet types i → Built sheet tables valueLimit rowLimit i
+  built-below : (m i : ℕ) → i < m → i < n → PolicyNode sheet types i → Built sheet tables limits i
   built-below zero i h g p = absurd (omega arith)
   built-below (suc m) i h g p = node (λ j l q. built-below m j (omega arith) (omega arith) q)
     where
-      node : ((j : ℕ) → j < i → PolicyNode sheet types j → Built sheet tables valueLimit rowLimit j) → Built sheet tables valueLimit rowLimit i
+      node : ((j : ℕ) → j < i → PolicyNode sheet types j → Built sheet tables limits j) → Built sheet tables limits i
       node ih = is-built i (omega arith) (omega arith) p (λ j e. rows-at (ih j (e .before) (policy-node right j (omega arith) (e .is)))) g
         where
-          rows-at : {j : ℕ} → Built sheet tables valueLimit rowLimit j → RowsAt sheet tables j
+          rows-at : {j : ℕ} → Built sheet tables limits j → RowsAt sheet tables j
           rows-at b = record { rows = b .rows; few = let h = b .few-rows in omega arith; fits = b .fits }
 
-  pub built-before : BuiltBefore sheet types tables valueLimit rowLimit n
+  pub built-before : BuiltBefore sheet types tables limits n
   built-before i h p = built-below (suc i) i (omega arith) h p
 
   rows-before : (i : ℕ) → i ≤ n → (j : ℕ) → PolicyBefore (typeAt types) i j → RowsAt sheet tables j
   rows-before i l j e = from (built-before j (let b = e .before in omega arith) (policy-node right j (omega arith) (e .is)))
     where
-      from : Built sheet tables valueLimit rowLimit j → RowsAt sheet tables j
+      from : Built sheet tables limits j → RowsAt sheet tables j
       from b = record { rows = b .rows; few = let h = b .few-rows in omega arith; fits = b .fits }
 
   -- node n is a rule
@@ -132,29 +133,29 @@ module _ {mode : Mode} {sheet : Sheet} {types : List TypedNode} (right : SoundSh
     same : rule ≡ lowered n (omega arith) inside policy (rows-before n (omega arith)) .code
     same = let e = sym is ∙ lowered n (omega arith) inside policy (rows-before n (omega arith)) .is in cc
 
-    values-of : OverReached A (codeStep A work rule) (codeStart A work rule) valueLimit → OverValues sheet tables n valueLimit
+    values-of : OverReached A (codeStep A work rule) (codeStart A work rule) (limits .values) → OverValues sheet tables n (limits .values)
     values-of o =
         over-values n (omega arith) inside policy (rows-before n (omega arith))
-        (subst (λ (r : NodeRule). OverReached A (codeStep A work r) (codeStart A work r) valueLimit) same o)
+        (subst (λ (r : NodeRule). OverReached A (codeStep A work r) (codeStart A work r) (limits .values)) same o)
 
     -- over a limit
-    pub stops-values : OverReached A (codeStep A work rule) (codeStart A work rule) valueLimit → Builds mode sheet types valueLimit rowLimit (refused 8 n) []
+    pub stops-values : OverReached A (codeStep A work rule) (codeStart A work rule) (limits .values) → Builds mode sheet types limits (refused 8 n) []
     stops-values o = stops tables n 8 inside built-before policy (values (values-of o))
 
-    pub stops-rows : (OverReached A (codeStep A work rule) (codeStart A work rule) valueLimit → ⊥) → OverStates A (codeStep A work rule) (codeStart A work rule) rowLimit
-        → Builds mode sheet types valueLimit rowLimit (refused 9 n) []
+    pub stops-rows : (OverReached A (codeStep A work rule) (codeStart A work rule) (limits .values) → ⊥) → OverStates A (codeStep A work rule) (codeStart A work rule) (limits .rows)
+        → Builds mode sheet types limits (refused 9 n) []
     stops-rows few o =
         stops tables n 9 inside built-before policy
         (rows
-        (few-values n (omega arith) inside policy (rows-before n (omega arith)) (λ q. few (subst (λ (r : NodeRule). OverReached A (codeStep A work r) (codeStart A work r) valueLimit) (sym same) q)))
-        (over-rows n (omega arith) inside policy (rows-before n (omega arith)) (subst (λ (r : NodeRule). OverStates A (codeStep A work r) (codeStart A work r) rowLimit) same o)))
+        (few-values n (omega arith) inside policy (rows-before n (omega arith)) (λ q. few (subst (λ (r : NodeRule). OverReached A (codeStep A work r) (codeStart A work r) (limits .values)) (sym same) q)))
+        (over-rows n (omega arith) inside policy (rows-before n (omega arith)) (subst (λ (r : NodeRule). OverStates A (codeStep A work r) (codeStart A work r) (limits .rows)) same o)))
 
   -- the rows that a slot before n was built with are its node's
   pub last-rows : (i : ℕ) → i < n → (policy : PolicyNode sheet types i) (rule : NodeRule) → ruleAt (sheetRules sheet types) i ≡ AsRule rule
-      → (b : RuleBuilt A valueLimit rowLimit work i rule) → RowsOf A (tripsNode sheet i) (b .rows) (take (b .rows * A) (slotAt work i))
+      → (b : RuleBuilt A limits work i rule) → RowsOf A (tripsNode sheet i) (b .rows) (take (b .rows * A) (slotAt work i))
   last-rows i h policy rule is b =
       rows-are i (omega arith) (omega arith) policy (rows-before i (omega arith)) (b .rows) (take (b .rows * A) (slotAt work i))
-      (subst (λ (r : NodeRule). RowsFor A (codeStep A work r) (codeStart A work r) rowLimit (b .rows) (take (b .rows * A) (slotAt work i))) same-rule (b .rows-for))
+      (subst (λ (r : NodeRule). RowsFor A (codeStep A work r) (codeStart A work r) (limits .rows) (b .rows) (take (b .rows * A) (slotAt work i))) same-rule (b .rows-for))
     where
       same-rule : rule ≡ lowered i (omega arith) (omega arith) policy (rows-before i (omega arith)) .code
       same-rule = let e = sym is ∙ lowered i (omega arith) (omega arith) policy (rows-before i (omega arith)) .is in cc

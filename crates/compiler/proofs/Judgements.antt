@@ -9,9 +9,9 @@ use Rattle.typing.specs.Typed.{Judgement, faulty, sound}
 use Rattle.syntax.specs.declared.Fault.{Fault}
 use Rattle.syntax.specs.declared.Sheet.{Sheet}
 use Rattle.syntax.specs.declared.TypedNode.{TypedNode}
-use Rattle.sheet.specs.Judge.{judgedSheet}
-use Rattle.sheet.specs.declared.JudgedSheet.{JudgedSheet}
-use Rattle.sheet.specs.declared.SheetFound.the-variants.{Policy, NotSound}
+use Rattle.sheet_judge.specs.Judge.{judgedSheet}
+use Rattle.sheet_judge.specs.declared.JudgedSheet.{JudgedSheet}
+use Rattle.sheet_judge.specs.declared.SheetFound.the-variants.{Policy, NotSound}
 
 pub judged-faulty : (j : Judgement) (r : JudgedSheet) (before : Sheet) (typing : List TypedNode) {f : Fault} → r ≡ judgedSheet before typing j
     → r .found ≡ NotSound f → j ≡ faulty f

@@ -9,7 +9,7 @@ use Rattle.trace.specs.Trace.{Sequence, go, run}
 use Rattle.automaton.specs.Minimal.{RowsOf}
 use Rattle.trace.specs.declared.Mode.{Mode}
 use Rattle.policy.specs.declared.Bound.{Bound}
-use Rattle.policy.specs.Words.{Property}
+use Rattle.policy.specs.Operators.{Property}
 use Rattle.policy.specs.Rule.{Rule, onParts, ruleOf, ruleTrips}
 use Rattle.policy.specs.Parts.{AllParts}
 use Rattle.policy.specs.Trips.{tripsPolicy, Typed}
@@ -26,7 +26,7 @@ use Rattle.syntax.specs.Meaning.{nodePolicy}
 use Rattle.syntax.specs.declared.Sheet.{Sheet}
 use Rattle.syntax.specs.declared.TypedNode.{TypedNode}
 use Rattle.syntax.proofs.NodeTypes.{PolicyBefore}
-use Rattle.rules.specs.Codes.{encode, CountFits, FitRule}
+use Rattle.rules.specs.Codes.{encode, CountInRange, FitRule}
 use Rattle.rules.specs.Rules.{partAt, ruleOver, machineRule}
 use Rattle.rules.specs.Steps.{encodeMove, codeStepOf, codeStep, codeStart}
 use Rattle.rules.specs.declared.NodeRule.{NodeRule}
@@ -72,7 +72,7 @@ module _ (sheet : Sheet) (types : List TypedNode) (n : ℕ) {mode : Mode} {bound
         from r = (r .rows, rows-closed (r .fits .machine) (r .fits .low) (r .few))
 
     -- a rule over the rows of these parts is one whose steps are right
-    fit : (r : Rule ℕ) → AllParts Q r → CountFits r → FitRule (onParts (partOf sheet tables) r)
+    fit : (r : Rule ℕ) → AllParts Q r → CountInRange r → FitRule (onParts (partOf sheet tables) r)
     fit r parts count =
         record { counted = count-on (partOf sheet tables) r count; closed = all-onto Q (λ f. (m : ℕ) × Closed m f) (partOf sheet tables) part-closed r parts }
 

@@ -8,8 +8,8 @@ use Rattle.typing.specs.Typed.{sound, SoundSheet}
 use Rattle.syntax.specs.declared.Sheet.{Sheet}
 use Rattle.syntax.specs.declared.TypedNode.{TypedNode}
 use Rattle.typing.proofs.Sound.{judged-sound}
-use Rattle.sheet.specs.Judge.{judge}
-use Rattle.sheet.proofs.ReadFrom.{judged-formed}
+use Rattle.sheet_judge.specs.Judge.{judge}
+use Rattle.sheet_judge.proofs.JudgedFrom.{judged-formed}
 
 pub passed : (bytes : List ℕ) {mode : Mode} {sheet : Sheet} {types : List TypedNode} → judge bytes ≡ sound mode sheet types → SoundSheet mode sheet types
 passed bytes e = let r = judged-formed bytes e in judged-sound _ (r .judged) (r .formed)

@@ -5,7 +5,7 @@ use mathlib.Core.Bool.{Bool, cond}
 use mathlib.Core.List.{List, [], _∷_}
 use Prim.Native.Nat.{ℕ, _<_}
 use Rattle.trace.specs.Trace.{Sequence, Move, trip, go, Step, after, run}
-use Rattle.policy.specs.Rule.{Rule, opening, filtered, onParts}
+use Rattle.policy.specs.Rule.{Rule, opening-r, ignoring-r, onParts}
 use Rattle.policy.specs.Value.{Part, Opening, fresh, spent, start, stepOf, stepOpening}
 use Rattle.rules.specs.Steps.{encodeMove}
 use Rattle.node_rules.specs.Lowering.{SameRule, opens, filters, equal}
@@ -29,15 +29,15 @@ pub same-codes : (actions : ℕ) (f : ℕ → Part) (r s : Rule ℕ) → SameRul
     → encodeMove (onParts f s) (run (stepOf (onParts f s)) (go (start (onParts f s))) w)
     ≡ encodeMove (onParts f r) (run (stepOf (onParts f r)) (go (start (onParts f r))) w)
 same-codes actions f r s (opens h g e) w p =
-    ap (encodeMove (opening g)) (run-agree actions (stepOf (opening g)) (stepOf (opening h)) (λ v a l. opening-agree g h v a (sym (e a l))) w p (go fresh)) ∙ recode (run (stepOf (opening h)) (go fresh) w)
+    ap (encodeMove (opening-r g)) (run-agree actions (stepOf (opening-r g)) (stepOf (opening-r h)) (λ v a l. opening-agree g h v a (sym (e a l))) w p (go fresh)) ∙ recode (run (stepOf (opening-r h)) (go fresh) w)
   where
-    recode : (m : Move Opening) → encodeMove (opening g) m ≡ encodeMove (opening h) m
+    recode : (m : Move Opening) → encodeMove (opening-r g) m ≡ encodeMove (opening-r h) m
     recode trip = refl
     recode (go v) = refl
 same-codes actions f r s (filters h g e q) w p =
-    ap (encodeMove (filtered g (f q))) (run-agree actions (stepOf (filtered g (f q))) (stepOf (filtered h (f q))) (λ v a l. ap (λ (b : Bool). cond b (go v) (f q v a)) (sym (e a l))) w p (go 0)) ∙ recode (run (stepOf (filtered h (f q))) (go 0) w)
+    ap (encodeMove (ignoring-r g (f q))) (run-agree actions (stepOf (ignoring-r g (f q))) (stepOf (ignoring-r h (f q))) (λ v a l. ap (λ (b : Bool). cond b (go v) (f q v a)) (sym (e a l))) w p (go 0)) ∙ recode (run (stepOf (ignoring-r h (f q))) (go 0) w)
   where
-    recode : (m : Move ℕ) → encodeMove (filtered g (f q)) m ≡ encodeMove (filtered h (f q)) m
+    recode : (m : Move ℕ) → encodeMove (ignoring-r g (f q)) m ≡ encodeMove (ignoring-r h (f q)) m
     recode trip = refl
     recode (go v) = refl
 same-codes actions f r s (equal x) w p = refl

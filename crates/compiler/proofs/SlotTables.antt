@@ -7,6 +7,7 @@ use native.Mathlib.Decide.{decLt}
 use native.Mathlib.Omega.{arith}
 use lib.ListN.{getD, take, length-take, List·getD-eq-default}
 use lib.Seq.{getD-take}
+use Rattle.limits.specs.declared.Limits.{Limits}
 use Rattle.automaton.specs.Machine.{transition, entryMove}
 use Rattle.rules.specs.Rules.{slotAt, partAt, ruleAt}
 use Rattle.rules.specs.declared.NodeRule.{NodeRule}
@@ -15,10 +16,10 @@ use Rattle.rules.specs.declared.Lowered.the-variants.{AsRule, NoRule}
 use Rattle.rules.specs.declared.RuleAt.{RuleAt}
 use Rattle.rule_rows.specs.Lists.{RuleBuilt, BuiltTo}
 
-module _ (rules : List RuleAt) (actions valueLimit rowLimit n : ℕ) (work : List ℕ) (built : BuiltTo rules actions valueLimit rowLimit n work) where
+module _ (rules : List RuleAt) (actions : ℕ) (limits : Limits) (n : ℕ) (work : List ℕ) (built : BuiltTo rules actions limits n work) where
   -- what is built for a rule in slot i
   abbrev Slot : NodeRule → ℕ → Type 0
-  Slot rule i = RuleBuilt actions valueLimit rowLimit work i rule
+  Slot rule i = RuleBuilt actions limits work i rule
 
   entriesBy : (i : ℕ) → Dec (i < n) → (l : Lowered) → ruleAt rules i ≡ l → List ℕ
   entriesBy i (yes h) (AsRule rule) e = take (built .each i h rule e .rows * actions) (slotAt work i)

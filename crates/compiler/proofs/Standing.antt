@@ -7,6 +7,7 @@ use Prim.Native.Nat.{ℕ, _*_, _-_, _≤_, _<_}
 use native.Mathlib.Omega.{arith}
 use lib.ListN.{take}
 use Rattle.trace.specs.declared.Mode.{Mode}
+use Rattle.limits.specs.declared.Limits.{Limits}
 use Rattle.automaton.specs.Minimal.{RowsOf}
 use Rattle.automaton.proofs.MinimalRows.{rows-unique}
 use Rattle.table.specs.Answer.{refused}
@@ -14,7 +15,7 @@ use Rattle.making.specs.Making.{Workable}
 use Rattle.typing.specs.Typed.{sound, SoundSheet}
 use Rattle.syntax.specs.declared.Sheet.{Sheet}
 use Rattle.syntax.specs.declared.TypedNode.{TypedNode}
-use Rattle.sheet.specs.Judge.{judge}
+use Rattle.sheet_judge.specs.Judge.{judge}
 use Rattle.rules.specs.Rules.{slotAt}
 use Rattle.machine_rows.proofs.BuiltSlots.{built-readable}
 use Rattle.rule_rows.specs.Lists.{AllBuildable, BuiltTo, LastRows, ValuesOver, RowsOver}
@@ -25,42 +26,40 @@ use Rattle.node_rules.proofs.Facts.{rule-facts}
 use Rattle.compiler.specs.Limits.{Built}
 use Rattle.compiler.specs.Compiles.{PolicyNode, Builds, passes}
 use Rattle.compiler.specs.Building.{Stands, NodesStand, SheetTo}
-use Rattle.compiler.specs.declared.NodesBuilt.the-variants.{ValuesAt, RowsAt, Rows}
+use Rattle.compiler.specs.declared.NodesBuilt.the-variants.{Refused, Rows}
+use Rattle.compiler.specs.declared.Refusal.the-variants.{TooManyValues, TooManyRows}
 use Rattle.compiler.proofs.BuiltNodes as nodes
 use Rattle.compiler.proofs.SlotTables.{slot-part}
 
-module _ {mode : Mode} {sheet : Sheet} {types : List TypedNode} (right : SoundSheet mode sheet types) (valueLimit rowLimit : ℕ) where
+module _ {mode : Mode} {sheet : Sheet} {types : List TypedNode} (right : SoundSheet mode sheet types) (limits : Limits) where
   -- the rules of the sheet can be built
-  pub buildable : (work numbers : List ℕ) → Workable valueLimit rowLimit work numbers
-      → AllBuildable (sheetRules sheet types) (sheet .count) (sheet .actions) valueLimit rowLimit work numbers
+  pub buildable : (work numbers : List ℕ) → Workable limits work numbers
+      → AllBuildable (sheetRules sheet types) (sheet .count) (sheet .actions) limits work numbers
   buildable work numbers lent =
       record {
         few = right .formed .few-nodes;
         parts = λ n h rule e. rule-facts sheet types right n h rule e .parts;
         actions-low = right .formed .some-action;
         actions-high = right .formed .few-actions;
-        value-low = lent .value-low;
-        value-high = lent .value-high;
-        row-low = lent .row-low;
-        row-high = lent .row-high;
+        range = lent .range;
         room = lent .bytes;
         space = lent .numbers;
       }
 
-  module _ (small : rowLimit ≤ 64) (work : List ℕ) where
-    values-over : (n : ℕ) → ValuesOver (sheetRules sheet types) (sheet .count) (sheet .actions) valueLimit rowLimit n work
-        → Builds mode sheet types valueLimit rowLimit (refused 8 n) []
-    values-over n o = let h = o .inside in nodes.stops-values right valueLimit rowLimit small n (omega arith) work (o .earlier) (o .inside) (o .rule) (o .is) (o .over)
+  module _ (small : limits .rows ≤ 64) (work : List ℕ) where
+    values-over : (n : ℕ) → ValuesOver (sheetRules sheet types) (sheet .count) (sheet .actions) limits n work
+        → Builds mode sheet types limits (refused 8 n) []
+    values-over n o = let h = o .inside in nodes.stops-values right limits small n (omega arith) work (o .earlier) (o .inside) (o .rule) (o .is) (o .over)
 
-    rows-over : (n : ℕ) → RowsOver (sheetRules sheet types) (sheet .count) (sheet .actions) valueLimit rowLimit n work
-        → Builds mode sheet types valueLimit rowLimit (refused 9 n) []
+    rows-over : (n : ℕ) → RowsOver (sheetRules sheet types) (sheet .count) (sheet .actions) limits n work
+        → Builds mode sheet types limits (refused 9 n) []
     rows-over n o =
         let h = o .inside in
-        nodes.stops-rows right valueLimit rowLimit small n (omega arith) work (o .earlier) (o .inside) (o .rule) (o .is) (o .few-values) (o .over)
+        nodes.stops-rows right limits small n (omega arith) work (o .earlier) (o .inside) (o .rule) (o .is) (o .few-values) (o .over)
 
     -- every rule is built
-    module _ (built : BuiltTo (sheetRules sheet types) (sheet .actions) valueLimit rowLimit (sheet .count) work) (count : ℕ)
-        (newest : LastRows (sheetRules sheet types) (sheet .actions) valueLimit rowLimit (sheet .count) count work) where
+    module _ (built : BuiltTo (sheetRules sheet types) (sheet .actions) limits (sheet .count) work) (count : ℕ)
+        (newest : LastRows (sheetRules sheet types) (sheet .actions) limits (sheet .count) count work) where
       abbrev A : ℕ
       A = sheet .actions
 
@@ -74,17 +73,17 @@ module _ {mode : Mode} {sheet : Sheet} {types : List TypedNode} (right : SoundSh
       policy = nodes.policy-node right last below (right .last)
 
       abbrev tables : Tables
-      tables = nodes.tables right valueLimit rowLimit small (sheet .count) (omega arith) work built
+      tables = nodes.tables right limits small (sheet .count) (omega arith) work built
 
-      own : Built sheet tables valueLimit rowLimit last
-      own = nodes.built-before right valueLimit rowLimit small (sheet .count) (omega arith) work built last below policy
+      own : Built sheet tables limits last
+      own = nodes.built-before right limits small (sheet .count) (omega arith) work built last below policy
 
       rows-are : RowsOf A (tripsNode sheet last) count (take (count * A) (slotAt work last))
       rows-are =
           let l = policy-right sheet (λ k. Unit {0}) types right last below (λ k p. tt) (right .last) in
           let b = newest .newest last (omega (arith, right .formed .some-node)) (l .code) (l .is) in
           subst (λ (k : ℕ). RowsOf A (tripsNode sheet last) k (take (k * A) (slotAt work last))) (b .1)
-          (nodes.last-rows right valueLimit rowLimit small (sheet .count) (omega arith) work built last below policy (l .code) (l .is) (b .0))
+          (nodes.last-rows right limits small (sheet .count) (omega arith) work built last below policy (l .code) (l .is) (b .0))
 
       -- they are the rows that were listed for it
       same : (count ≡ own .rows) × (take (count * A) (slotAt work last) ≡ tables last)
@@ -95,14 +94,14 @@ module _ {mode : Mode} {sheet : Sheet} {types : List TypedNode} (right : SoundSh
           let l = policy-right sheet (λ k. Unit {0}) types right i h (λ k q. tt) (p .is) in
           record {
             readable = built-readable work i (built .each i h (l .code) (l .is)) small (omega (arith, right .formed .few-nodes));
-            machine = slot-part (sheetRules sheet types) A valueLimit rowLimit (sheet .count) work built i h (l .code) (l .is);
+            machine = slot-part (sheetRules sheet types) A limits (sheet .count) work built i h (l .code) (l .is);
           }
 
-      nodes-stand : NodesStand sheet types valueLimit rowLimit count work
+      nodes-stand : NodesStand sheet types limits count work
       nodes-stand =
           record {
             tables = tables;
-            built = nodes.built-before right valueLimit rowLimit small (sheet .count) (omega arith) work built;
+            built = nodes.built-before right limits small (sheet .count) (omega arith) work built;
             stand = stands;
             last = own;
             counted = same .0;
@@ -110,17 +109,17 @@ module _ {mode : Mode} {sheet : Sheet} {types : List TypedNode} (right : SoundSh
           }
 
 -- what building the rules of a judged sheet gives is what its bytes give
-module _ (bytes : List ℕ) {mode : Mode} {sheet : Sheet} {types : List TypedNode} (valueLimit rowLimit : ℕ) (judged : judge bytes ≡ sound mode sheet types)
-    (right : SoundSheet mode sheet types) (small : rowLimit ≤ 64) (work : List ℕ) where
-  pub sheet-values : (n : ℕ) → ValuesOver (sheetRules sheet types) (sheet .count) (sheet .actions) valueLimit rowLimit n work
-      → SheetTo bytes valueLimit rowLimit (ValuesAt n) sheet work
-  sheet-values n o = passes _ _ _ judged _ _ (values-over right valueLimit rowLimit small work n o)
+module _ (bytes : List ℕ) {mode : Mode} {sheet : Sheet} {types : List TypedNode} (limits : Limits) (judged : judge bytes ≡ sound mode sheet types)
+    (right : SoundSheet mode sheet types) (small : limits .rows ≤ 64) (work : List ℕ) where
+  pub sheet-values : (n : ℕ) → ValuesOver (sheetRules sheet types) (sheet .count) (sheet .actions) limits n work
+      → SheetTo bytes limits (Refused (TooManyValues n)) sheet work
+  sheet-values n o = passes _ _ _ judged _ _ (values-over right limits small work n o)
 
-  pub sheet-rows : (n : ℕ) → RowsOver (sheetRules sheet types) (sheet .count) (sheet .actions) valueLimit rowLimit n work
-      → SheetTo bytes valueLimit rowLimit (RowsAt n) sheet work
-  sheet-rows n o = passes _ _ _ judged _ _ (rows-over right valueLimit rowLimit small work n o)
+  pub sheet-rows : (n : ℕ) → RowsOver (sheetRules sheet types) (sheet .count) (sheet .actions) limits n work
+      → SheetTo bytes limits (Refused (TooManyRows n)) sheet work
+  sheet-rows n o = passes _ _ _ judged _ _ (rows-over right limits small work n o)
 
-  pub sheet-built : (rows : ℕ) → BuiltTo (sheetRules sheet types) (sheet .actions) valueLimit rowLimit (sheet .count) work
-      → LastRows (sheetRules sheet types) (sheet .actions) valueLimit rowLimit (sheet .count) rows work
-      → SheetTo bytes valueLimit rowLimit (Rows mode rows) sheet work
-  sheet-built rows built newest = record { types = types; judged = judged; nodes = nodes-stand right valueLimit rowLimit small work built rows newest }
+  pub sheet-built : (rows : ℕ) → BuiltTo (sheetRules sheet types) (sheet .actions) limits (sheet .count) work
+      → LastRows (sheetRules sheet types) (sheet .actions) limits (sheet .count) rows work
+      → SheetTo bytes limits (Rows mode rows) sheet work
+  sheet-built rows built newest = record { types = types; judged = judged; nodes = nodes-stand right limits small work built rows newest }

@@ -1,4 +1,5 @@
 pub mod Limits
 pub mod Compiles
+pub mod Refusals
 pub mod Building
 pub mod Calling

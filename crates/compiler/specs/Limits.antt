@@ -2,6 +2,7 @@
 -- Assumes nothing.
 use Prim.Native.Nat.{ℕ, _≤_}
 use Rattle.trace.specs.Limits.{ManyValues, ManyRows}
+use Rattle.limits.specs.declared.Limits.{Limits}
 use Rattle.automaton.specs.Minimal.{RowsOf}
 use Rattle.syntax.specs.declared.Sheet.{Sheet}
 use Rattle.node_rules.specs.Nodes.{tripsNode, Tables, rememberedAt}
@@ -15,8 +16,8 @@ abbrev pub OverRows : Sheet → ℕ → ℕ → Type 0
 OverRows sheet n limit = ManyRows (sheet .actions) (tripsNode sheet n) limit
 
 -- Node n is inside both limits, and `tables n` are its rows.
-pub record Built (sheet : Sheet) (tables : Tables) (valueLimit rowLimit n : ℕ) : Type 0 where
-  pub few-values : OverValues sheet tables n valueLimit → ⊥
+pub record Built (sheet : Sheet) (tables : Tables) (limits : Limits) (n : ℕ) : Type 0 where
+  pub few-values : OverValues sheet tables n (limits .values) → ⊥
   pub rows : ℕ
-  pub few-rows : rows ≤ rowLimit
+  pub few-rows : rows ≤ limits .rows
   pub fits : RowsOf (sheet .actions) (tripsNode sheet n) rows (tables n)

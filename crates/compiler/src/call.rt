@@ -2,11 +2,19 @@
 use crate::Compiled;
 use crate::NodesBuilt;
 use crate::building::build_sheet;
+use limits::LARGEST;
+use limits::Limits;
+use limits::NUMBERS_LENGTH;
+use limits::WORK_LENGTH;
+use machine_tables::write_rows;
 use making::long_enough;
-use making::write_table;
+use table::LARGEST_TABLE;
 ghost use mathlib.Core.Path.{_≡_};
 ghost use Prim.Native.Nat.{_≤_};
 ghost use lib.ListN.{length};
+ghost use Rattle.limits.specs.Lengths.{workLength, numbersLength};
+ghost use Rattle.limits.specs.Limits.{largest};
+ghost use Rattle.table.specs.Table.{largestTable};
 ghost use Rattle.making.specs.Making.{Lent, Zeroed};
 ghost use Rattle.compiler.specs.Calling.{answerOf, CompilesTo, CompilesInto};
 
@@ -16,25 +24,20 @@ fn compile_with(
     out: &mut [u8],
     work: &mut [u8],
     values: &mut [u64],
-    value_limit: usize,
-    row_limit: usize,
+    limits: Limits,
 ) -> Compiled
-    requires { ⌜ Lent «value_limit» «row_limit» (now out) (now work) (now values) ⌝ }
-    ensures { λ r. ⌜ CompilesTo (now (sheet .entry)) «value_limit» «row_limit» (answerOf r) (now (out .entry)) (now (out .exit)) ⌝ }
+    requires { ⌜ Lent limits (now out) (now work) (now values) ⌝ }
+    ensures { λ r. ⌜ CompilesTo (now (sheet .entry)) limits (answerOf r) (now (out .entry)) (now (out .exit)) ⌝ }
 {
-    let standing = build_sheet(sheet, work, values, value_limit, row_limit);
+    let standing = build_sheet(sheet, work, values, limits);
     let built = standing.built;
     match built {
-        NodesBuilt::NotSound(fault) => Compiled::Faulty(fault),
-        NodesBuilt::ValuesAt(n) => Compiled::TooManyValues(n),
-        NodesBuilt::RowsAt(n) => Compiled::TooManyRows(n),
+        NodesBuilt::Refused(refusal) => Compiled::Refused(refusal),
         NodesBuilt::Rows { mode, rows } => {
             let read = standing.sheet;
             let count = read.count;
             let actions = read.actions;
-            let from = (count - 1) * 1024;
-            let to = from + rows * actions;
-            write_table(mode, actions, rows, &work[from..to], out);
+            write_rows(mode, actions, rows, count - 1, work, out);
             Compiled::Table {
                 mode,
                 actions,
@@ -46,14 +49,14 @@ fn compile_with(
 
 // Compiles a sheet in work areas of their exact lengths, and zeroes them.
 fn compile_in(sheet: &[u8], out: &mut [u8], work: &mut [u8], values: &mut [u64]) -> Compiled
-    requires { ⌜ 1032 ≤ length (now out) ⌝ }
-    requires { ⌜ length (now work) ≡ 65536 ⌝ }
-    requires { ⌜ length (now values) ≡ 1024 ⌝ }
-    ensures { λ r. ⌜ CompilesTo (now (sheet .entry)) 1024 64 (answerOf r) (now (out .entry)) (now (out .exit)) ⌝ }
+    requires { ⌜ largestTable ≤ length (now out) ⌝ }
+    requires { ⌜ length (now work) ≡ workLength ⌝ }
+    requires { ⌜ length (now values) ≡ numbersLength ⌝ }
+    ensures { λ r. ⌜ CompilesTo (now (sheet .entry)) largest (answerOf r) (now (out .entry)) (now (out .exit)) ⌝ }
     ensures { λ _. ⌜ Zeroed (now (work .entry)) (now (work .exit)) ⌝ }
     ensures { λ _. ⌜ Zeroed (now (values .entry)) (now (values .exit)) ⌝ }
 {
-    let compiled = compile_with(sheet, out, work, values, 1024, 64);
+    let compiled = compile_with(sheet, out, work, values, LARGEST);
     base::fill(work, 0);
     base::clear_numbers(values);
     compiled
@@ -63,8 +66,13 @@ fn compile_in(sheet: &[u8], out: &mut [u8], work: &mut [u8], values: &mut [u64])
 pub fn compile(sheet: &[u8], out: &mut [u8], work: &mut [u8], values: &mut [u64]) -> Compiled
     ensures { λ r. ⌜ CompilesInto (now (sheet .entry)) (now (out .entry)) (now (work .entry)) (now (values .entry)) (answerOf r) (now (out .exit)) (now (work .exit)) (now (values .exit)) ⌝ }
 {
-    if long_enough(1032, out.len(), work.len(), values.len()) {
-        return compile_in(sheet, out, &mut work[..65536], &mut values[..1024]);
+    if long_enough(LARGEST_TABLE, out.len(), work.len(), values.len()) {
+        return compile_in(
+            sheet,
+            out,
+            &mut work[..WORK_LENGTH],
+            &mut values[..NUMBERS_LENGTH],
+        );
     }
     Compiled::ShortArea
 }

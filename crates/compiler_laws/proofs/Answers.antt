@@ -9,6 +9,8 @@ use Prim.Native.Nat.{ℕ, _<_}
 use native.Mathlib.Omega.{arith}
 use lib.Dec.{eqb}
 use Rattle.trace.specs.declared.Mode.{Mode}
+use Rattle.limits.specs.declared.Limits.{Limits}
+use Rattle.limits.specs.Limits.{largest}
 use Rattle.table.specs.Answer.{Answer, refused}
 use Rattle.making.specs.Making.{Areas, short, makes}
 use Rattle.syntax.specs.Faults.{numberOf, spotOf}
@@ -20,12 +22,13 @@ use Rattle.typing.specs.Typed.{Judgement, faulty, sound}
 use Rattle.renumbering.specs.FirstFault.{FirstFault, unfit, too-long, no-policy}
 use Rattle.renumbering.specs.SameUsed.{SameUsed}
 use Rattle.renumbering.proofs.Judged.{faulty-exactly}
-use Rattle.sheet.specs.Judge.{judge, sheetIn}
-use Rattle.sheet.specs.ReadFrom.{ReadFrom}
-use Rattle.sheet.specs.Malformed.{MalformedOrRead, malformed as judged-malformed, read}
-use Rattle.sheet.proofs.Header.{laid}
-use Rattle.sheet.proofs.ReadFrom.{formed-from, actions-from, nodes-from, judge-from}
-use Rattle.sheet.proofs.Malformed.{malformed-or-read, malformed-judged, malformed-number}
+use Rattle.sheet_judge.specs.Judge.{judge, sheetIn}
+use Rattle.sheet_reading.specs.ReadFrom.{ReadFrom}
+use Rattle.sheet_judge.specs.Malformed.{MalformedOrRead, malformed as judged-malformed, read}
+use Rattle.sheet_layout.proofs.Header.{laid}
+use Rattle.sheet_reading.proofs.ReadFrom.{formed-from, actions-from, nodes-from}
+use Rattle.sheet_judge.proofs.JudgedFrom.{judge-from}
+use Rattle.sheet_judge.proofs.Malformed.{malformed-or-read, malformed-judged, malformed-number}
 use Rattle.compiler.specs.Compiles.{StopsAt, values, rows, Builds, stops, Compiles, faulted, passes}
 use Rattle.compiler.specs.Calling.{CompilesInto}
 use Rattle.compiler_laws.specs.Demands.{OneActionList}
@@ -72,8 +75,8 @@ module _ (bytes : List ℕ) where
 -- Spare nodes change nothing, over bytes: two that pass checks 1 to 5, whose sheets have one action list and the same used nodes in the same order,
 -- apart from their numbering, give the same table or one refusal number, for any limits.
 pub spare-nodes-in-bytes : {bytes other : List ℕ} → PassesToFive bytes → PassesToFive other → OneActionList (sheetRead bytes) (sheetRead other)
-    → (same : SameUsed (sheetRead bytes) (sheetRead other)) (valueLimit rowLimit : ℕ) {a b : Answer} {t u : List ℕ}
-    → Compiles bytes valueLimit rowLimit a t → Compiles other valueLimit rowLimit b u → SameButSpot (same .to) a t b u
+    → (same : SameUsed (sheetRead bytes) (sheetRead other)) (limits : Limits) {a b : Answer} {t u : List ℕ}
+    → Compiles bytes limits a t → Compiles other limits b u → SameButSpot (same .to) a t b u
 spare-nodes-in-bytes {bytes} {other} p q one same = spare-nodes (passes-exactly bytes .0 p) (passes-exactly other .0 q) one same
 
 -- a fault is known by its number and its spot
@@ -105,22 +108,22 @@ low (WrongFieldAt n) = omega arith
 low (WrongTypeAt n) = omega arith
 low (BoundAt n) = omega arith
 
-stop-high : {sheet : Sheet} {tables : _} {valueLimit rowLimit n number : ℕ} → StopsAt sheet tables valueLimit rowLimit n number → 7 < number
+stop-high : {sheet : Sheet} {tables : _} {limits : Limits} {n number : ℕ} → StopsAt sheet tables limits n number → 7 < number
 stop-high (values over) = omega arith
 stop-high (rows few over) = omega arith
 
-module _ (bytes : List ℕ) (valueLimit rowLimit : ℕ) where
+module _ (bytes : List ℕ) (limits : Limits) where
   -- why compiling is refused: by a fault, or at a node that is over a limit
   data Reason : (number spot : ℕ) → Type 0 where
     by-fault : (f : Fault) → judge bytes ≡ faulty f → Reason (numberOf f) (spotOf f)
-    by-limit : {n number : ℕ} → FirstOver bytes valueLimit rowLimit n number → Reason number n
+    by-limit : {n number : ℕ} → FirstOver bytes limits n number → Reason number n
 
   built-reason : {mode : Mode} {sheet : Sheet} {types : List TypedNode} → judge bytes ≡ sound mode sheet types → {number spot : ℕ} {t : List ℕ}
-      → Builds mode sheet types valueLimit rowLimit (refused number spot) t → Reason number spot
+      → Builds mode sheet types limits (refused number spot) t → Reason number spot
   built-reason {mode} {sheet} {types} j (stops tables n number h built p over) =
       by-limit (record { sheet = sheet; read = record { mode = mode; types = types; judged = j }; tables = tables; inside = h; before = built; policy = p; over = over })
 
-  reason : {number spot : ℕ} {t : List ℕ} → Compiles bytes valueLimit rowLimit (refused number spot) t → Reason number spot
+  reason : {number spot : ℕ} {t : List ℕ} → Compiles bytes limits (refused number spot) t → Reason number spot
   reason (faulted f e) = by-fault f e
   reason (passes mode sheet types j x t b) = built-reason j b
 
@@ -128,44 +131,44 @@ module _ (bytes : List ℕ) (valueLimit rowLimit : ℕ) where
   fault-reason f (by-fault g e) p q = e ∙ ap faulty (sym (fault-back g) ∙ ap₂ faultBy p q ∙ fault-back f)
   fault-reason f (by-limit o) p q = absurd (omega (arith, low f, stop-high (o .over)))
 
-  limit-reason : {number spot : ℕ} → 7 < number → Reason number spot → FirstOver bytes valueLimit rowLimit spot number
+  limit-reason : {number spot : ℕ} → 7 < number → Reason number spot → FirstOver bytes limits spot number
   limit-reason h (by-fault f e) = absurd (omega (arith, low f))
   limit-reason h (by-limit o) = o
 
-module _ {bytes : List ℕ} {valueLimit rowLimit : ℕ} where
-  module _ {x : Answer} {written : List ℕ} (c : Compiles bytes valueLimit rowLimit x written) where
-    says : (number spot : ℕ) → x ≡ refused number spot → Reason bytes valueLimit rowLimit number spot
-    says number spot e = reason bytes valueLimit rowLimit (subst (λ (y : Answer). Compiles bytes valueLimit rowLimit y written) e c)
+module _ {bytes : List ℕ} {limits : Limits} where
+  module _ {x : Answer} {written : List ℕ} (c : Compiles bytes limits x written) where
+    says : (number spot : ℕ) → x ≡ refused number spot → Reason bytes limits number spot
+    says number spot e = reason bytes limits (subst (λ (y : Answer). Compiles bytes limits y written) e c)
 
-    limited : (n number : ℕ) → FirstOver bytes valueLimit rowLimit n number → x ≡ refused number n
+    limited : (n number : ℕ) → FirstOver bytes limits n number → x ≡ refused number n
     limited n number o =
-        compiles-determined bytes valueLimit rowLimit c
+        compiles-determined bytes limits c
         (passes (o .read .mode) (o .sheet) (o .read .types) (o .read .judged) _ _ (stops (o .tables) n number (o .inside) (o .before) (o .policy) (o .over)))
         .0
 
     -- 1 to 7 are answered, with their spots, exactly when the fault is the first one.
     pub compile-fault-exactly : (f : Fault) → (x ≡ refused (numberOf f) (spotOf f)) ↔ FirstFaultIn bytes f
     compile-fault-exactly f = (
-      λ e. judge-faulty-exactly bytes f .0 (fault-reason bytes valueLimit rowLimit f (says (numberOf f) (spotOf f) e) refl refl),
-      λ p. compiles-determined bytes valueLimit rowLimit c (faulted f (judge-faulty-exactly bytes f .1 p)) .0,
+      λ e. judge-faulty-exactly bytes f .0 (fault-reason bytes limits f (says (numberOf f) (spotOf f) e) refl refl),
+      λ p. compiles-determined bytes limits c (faulted f (judge-faulty-exactly bytes f .1 p)) .0,
     )
 
     -- 8 is answered at a node exactly when it is the first over a limit, and over that of values.
-    pub compile-8-exactly : (n : ℕ) → (x ≡ refused 8 n) ↔ FirstOver bytes valueLimit rowLimit n 8
-    compile-8-exactly n = (λ e. limit-reason bytes valueLimit rowLimit (omega arith) (says 8 n e), limited n 8)
+    pub compile-8-exactly : (n : ℕ) → (x ≡ refused 8 n) ↔ FirstOver bytes limits n 8
+    compile-8-exactly n = (λ e. limit-reason bytes limits (omega arith) (says 8 n e), limited n 8)
 
     -- 9 is answered at a node exactly when it is the first over a limit, and over that of rows alone.
-    pub compile-9-exactly : (n : ℕ) → (x ≡ refused 9 n) ↔ FirstOver bytes valueLimit rowLimit n 9
-    compile-9-exactly n = (λ e. limit-reason bytes valueLimit rowLimit (omega arith) (says 9 n e), limited n 9)
+    pub compile-9-exactly : (n : ℕ) → (x ≡ refused 9 n) ↔ FirstOver bytes limits n 9
+    compile-9-exactly n = (λ e. limit-reason bytes limits (omega arith) (says 9 n e), limited n 9)
 
     -- Compiling itself never answers 14.
     pub compile-never-14 : x ≡ refused 14 0 → ⊥
-    compile-never-14 e = omega (arith, refused-low bytes (subst (λ (y : Answer). Compiles bytes valueLimit rowLimit y written) e c) .0)
+    compile-never-14 e = omega (arith, refused-low bytes (subst (λ (y : Answer). Compiles bytes limits y written) e c) .0)
 
 module _ {bytes out work values : List ℕ} where
   -- With areas that are long enough, the answer of the call is one of compiling inside 1,024 values and 64 rows.
   pub compile-call-answers : Areas out work values → {answer : Answer} {out' work' values' : List ℕ} → CompilesInto bytes out work values answer out' work' values'
-      → (written : List ℕ) × Compiles bytes 1024 64 answer written
+      → (written : List ℕ) × Compiles bytes largest answer written
   compile-call-answers areas (short h) = absurd (h areas)
   compile-call-answers areas (makes a answer written c) = (written, c)
 

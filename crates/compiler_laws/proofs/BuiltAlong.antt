@@ -5,6 +5,7 @@ use mathlib.Core.List.{List, []}
 use Prim.Native.Nat.{ℕ, _-_, _<_}
 use Rattle.trace.specs.declared.Mode.{Mode}
 use Rattle.trace.specs.Limits.{ManyValues, ManyRows}
+use Rattle.limits.specs.declared.Limits.{Limits}
 use Rattle.automaton.specs.Minimal.{RowsOf}
 use Rattle.policy.specs.Value.{remembered}
 use Rattle.table.specs.Answer.{Answer, accepted, refused, modeNumber}
@@ -53,24 +54,24 @@ module _ {sheet other : Sheet} (formed : Formed sheet) (formed' : Formed other) 
         (RowsOf (other .actions) (tripsNode other (same .to n)) count entries)
     fits-along count entries = λ i. RowsOf (actions i) (trips i) count entries
 
-  module _ (valueLimit rowLimit : ℕ) (tables : Tables) where
-    built-along : (n : ℕ) → Used sheet n → Built other tables valueLimit rowLimit (same .to n) → Built sheet (along same tables) valueLimit rowLimit n
+  module _ (limits : Limits) (tables : Tables) where
+    built-along : (n : ℕ) → Used sheet n → Built other tables limits (same .to n) → Built sheet (along same tables) limits n
     built-along n u b = record {
-      few-values = λ over. b .few-values (subst (λ X. X) (values-along n u tables valueLimit) over);
+      few-values = λ over. b .few-values (subst (λ X. X) (values-along n u tables (limits .values)) over);
       rows = b .rows;
       few-rows = b .few-rows;
       fits = subst (λ X. X) (sym (fits-along n u (b .rows) (tables (same .to n)))) (b .fits);
     }
 
-    stops-along : (n : ℕ) → Used sheet n → {number : ℕ} → StopsAt other tables valueLimit rowLimit (same .to n) number
-        → StopsAt sheet (along same tables) valueLimit rowLimit n number
-    stops-along n u (values over) = values (subst (λ X. X) (sym (values-along n u tables valueLimit)) over)
+    stops-along : (n : ℕ) → Used sheet n → {number : ℕ} → StopsAt other tables limits (same .to n) number
+        → StopsAt sheet (along same tables) limits n number
+    stops-along n u (values over) = values (subst (λ X. X) (sym (values-along n u tables (limits .values))) over)
     stops-along n u (rows few over) =
-        rows (λ h. few (subst (λ X. X) (values-along n u tables valueLimit) h)) (subst (λ X. X) (sym (rows-along n u rowLimit)) over)
+        rows (λ h. few (subst (λ X. X) (values-along n u tables (limits .values)) h)) (subst (λ X. X) (sym (rows-along n u (limits .rows))) over)
 
   -- types that agree along the numbers
   module _ (types types' : List TypedNode) (agree : (n : ℕ) → Used sheet n → typeAt types n ≡ typeAt types' (same .to n))
-      (valueLimit rowLimit : ℕ) where
+      (limits : Limits) where
     policy-there : {n : ℕ} → PolicyNode sheet types n → PolicyNode other types' (same .to n)
     policy-there {n} p = record { used = same .used n (p .used); mode = p .mode; bound = p .bound; is = sym (agree n (p .used)) ∙ p .is }
 
@@ -78,25 +79,25 @@ module _ {sheet other : Sheet} (formed : Formed sheet) (formed' : Formed other) 
     policy-here {n} u p = record { used = u; mode = p .mode; bound = p .bound; is = agree n u ∙ p .is }
 
     before-along : (tables : Tables) (n m : ℕ) → ((i : ℕ) → i < n → Used sheet i → same .to i < m)
-        → BuiltBefore other types' tables valueLimit rowLimit m → BuiltBefore sheet types (along same tables) valueLimit rowLimit n
+        → BuiltBefore other types' tables limits m → BuiltBefore sheet types (along same tables) limits n
     before-along tables n m below built i h p =
-        built-along valueLimit rowLimit tables i (p .used) (built (same .to i) (below i h (p .used)) (policy-there p))
+        built-along limits tables i (p .used) (built (same .to i) (below i h (p .used)) (policy-there p))
 
     -- What building the other sheet gives is given by building the first.
-    pub builds-along : {mode : Mode} {answer' : Answer} {written' : List ℕ} → Builds mode other types' valueLimit rowLimit answer' written'
-        → GivenAlong same (Builds mode sheet types valueLimit rowLimit) answer' written'
+    pub builds-along : {mode : Mode} {answer' : Answer} {written' : List ℕ} → Builds mode other types' limits answer' written'
+        → GivenAlong same (Builds mode sheet types limits) answer' written'
     unfolding built-along
     builds-along {mode} (stops tables m number h built p over) = stop (same .onto m (p .used))
       where
-        stop : (n : ℕ) × Used sheet n × (same .to n ≡ m) → GivenAlong same (Builds mode sheet types valueLimit rowLimit) (refused number m) []
-        stop at = subst (λ (k : ℕ). GivenAlong same (Builds mode sheet types valueLimit rowLimit) (refused number k) []) (at .2) (record {
+        stop : (n : ℕ) × Used sheet n × (same .to n ≡ m) → GivenAlong same (Builds mode sheet types limits) (refused number m) []
+        stop at = subst (λ (k : ℕ). GivenAlong same (Builds mode sheet types limits) (refused number k) []) (at .2) (record {
           answer = refused number (at .0);
           written = [];
           gives = stops (along same tables) (at .0) number (used-below sheet formed (at .1))
               (before-along tables (at .0) m (λ i l v. subst (λ (k : ℕ). same .to i < k) (at .2) (same .order i (at .0) v (at .1) l)) built)
               (policy-here (at .1) (subst (PolicyNode other types') (sym (at .2)) p))
-              (stops-along valueLimit rowLimit tables (at .0) (at .1)
-              (subst (λ (k : ℕ). StopsAt other tables valueLimit rowLimit k number) (sym (at .2)) over));
+              (stops-along limits tables (at .0) (at .1)
+              (subst (λ (k : ℕ). StopsAt other tables limits k number) (sym (at .2)) over));
           alike = same-number number (at .0);
         })
     builds-along {mode} (builds tables built last) =
@@ -104,8 +105,8 @@ module _ {sheet other : Sheet} (formed : Formed sheet) (formed' : Formed other) 
       where
         -- the table of node m, of so many actions
         Table : ℕ → ℕ → Type 0
-        Table m count = (b : Built other tables valueLimit rowLimit m)
-            → GivenAlong same (Builds mode sheet types valueLimit rowLimit) (accepted (modeNumber mode) count (b .rows))
+        Table m count = (b : Built other tables limits m)
+            → GivenAlong same (Builds mode sheet types limits) (accepted (modeNumber mode) count (b .rows))
             (tableBytes (modeNumber mode) count (b .rows) (tables m))
 
         table : Table (same .to (sheet .count - 1)) (sheet .actions)
@@ -116,6 +117,6 @@ module _ {sheet other : Sheet} (formed : Formed sheet) (formed' : Formed other) 
               written = bytes;
               gives = builds (along same tables)
                   (before-along tables (sheet .count) (other .count) (λ i h u. used-below other formed' (same .used i u)) built)
-                  (built-along valueLimit rowLimit tables (sheet .count - 1) itself b);
+                  (built-along limits tables (sheet .count - 1) itself b);
               alike = same-table (modeNumber mode) (sheet .actions) (b .rows) bytes;
             }

@@ -1,20 +1,17 @@
 -- The table of a compiled sheet is accepted, has the answer's type, actions and rows, and gives its policy's verdict after every sequence.
 -- Assumes nothing.
-use mathlib.Core.Path.{_≡_, refl, sym, _∙_, ap, subst}
+use mathlib.Core.Path.{_≡_, refl, _∙_, ap, subst}
 use mathlib.Core.List.{List}
 use Prim.Native.Nat.{ℕ, _-_, _≤_}
 use native.Mathlib.Omega.{arith}
 use Rattle.trace.specs.declared.Mode.{Mode}
 use Rattle.trace.specs.declared.Mode.the-variants.{Watched, Enforced}
 use Rattle.trace.specs.Trace.{Sequence}
-use Rattle.policy.specs.declared.Bound.{Bound}
-use Rattle.policy.specs.declared.Typing.the-variants.{Typed}
-use Rattle.policy.specs.Policy.{Policy, satisfies}
-use Rattle.policy.specs.Typing.{typeOf as typingOf}
-use Rattle.policy.specs.Trips.{tripsPolicy}
-use Rattle.policy.proofs.Rules.{watched-satisfied, enforced-satisfied}
+use Rattle.limits.specs.declared.Limits.{Limits}
+use Rattle.policy.specs.Policy.{satisfies}
+use Rattle.policy.proofs.Rules.{verdict-satisfied}
 use Rattle.automaton.specs.Minimal.{RowsOf}
-use Rattle.table.specs.Table.{typeOf, actionsOf, rowsOf, entriesOf, Accepted, judged, verdict}
+use Rattle.table.specs.Table.{typeOf, actionsOf, rowsOf, entriesOf, Accepted, verdictBy, verdict}
 use Rattle.table.specs.Answer.{accepted as accepts, modeNumber}
 use Rattle.syntax.specs.Nodes.{propositionsOf}
 use Rattle.syntax.specs.Meaning.{sheetPolicy}
@@ -22,7 +19,7 @@ use Rattle.typing.specs.Typed.{sound, SoundSheet}
 use Rattle.syntax.specs.declared.Sheet.{Sheet}
 use Rattle.syntax.specs.declared.TypedNode.{TypedNode}
 use Rattle.typing.proofs.Meanings.{policy-of}
-use Rattle.sheet.specs.Judge.{judge}
+use Rattle.sheet_judge.specs.Judge.{judge}
 use Rattle.node_rules.specs.Nodes.{tripsNode}
 use Rattle.making.proofs.TableBytes.{MadeOf, made-of}
 use Rattle.compiler.specs.Compiles.{Builds, builds, Compiles, passes}
@@ -36,12 +33,6 @@ mode-low Enforced = omega arith
 mode-high : (mode : Mode) → modeNumber mode ≤ 2
 mode-high Watched = omega arith
 mode-high Enforced = omega arith
-
--- the verdict of a type, from the trips of a policy of that type
-judged-satisfied : (mode : Mode) (propositions : ℕ → ℕ) (p : Policy) (bound : Bound) → typingOf p ≡ Typed mode bound → (w : List ℕ)
-    → judged (modeNumber mode) (tripsPolicy propositions p w) ≡ satisfies propositions p w
-judged-satisfied Watched propositions p bound e w = sym (watched-satisfied propositions p bound e w)
-judged-satisfied Enforced propositions p bound e w = sym (enforced-satisfied propositions p bound e w)
 
 -- one sheet is read from the bytes
 pub same-sheet : {bytes : List ℕ} {sheet other : Sheet} → ReadAs bytes sheet → ReadAs bytes other → sheet ≡ other
@@ -67,9 +58,9 @@ module _ {mode : Mode} {sheet : Sheet} {types : List TypedNode} (right : SoundSh
     (made : MadeOf (modeNumber mode) (sheet .actions) (tripsSheet sheet) rows written) where
   gives : (w : List ℕ) → Sequence (sheet .actions) w → verdict written w ≡ satisfies (propositionsOf sheet) (sheetPolicy sheet) w
   gives w s =
-      ap (judged (typeOf written)) (made .reads w s)
-      ∙ ap (λ (type : ℕ). judged type (tripsNode sheet (sheet .count - 1) w)) (made .type-is)
-      ∙ judged-satisfied mode (propositionsOf sheet) (sheetPolicy sheet) (right .bound)
+      ap (verdictBy (typeOf written)) (made .reads w s)
+      ∙ ap (λ (type : ℕ). verdictBy type (tripsNode sheet (sheet .count - 1) w)) (made .type-is)
+      ∙ verdict-satisfied (propositionsOf sheet) (λ m. verdictBy (modeNumber m)) (λ b. refl) (λ b. refl) mode (sheetPolicy sheet) (right .bound)
       (policy-of sheet types right (sheet .count - 1) (omega (arith, right .formed .some-node)) (right .last)) w
 
   table-of : TableOf sheet (modeNumber mode) (sheet .actions) rows written
@@ -84,9 +75,18 @@ module _ {mode : Mode} {sheet : Sheet} {types : List TypedNode} (right : SoundSh
         verdicts = gives;
       }
 
-module _ (bytes : List ℕ) (valueLimit rowLimit : ℕ) (small : rowLimit ≤ 64) where
+built-type : {mode : Mode} {sheet : Sheet} {types : List TypedNode} {limits : Limits} {type actions rows : ℕ} {written : List ℕ}
+    → Builds mode sheet types limits (accepts type actions rows) written → type ≡ modeNumber mode
+built-type (builds tables built last) = refl
+
+-- The type of a compiled table is that of its sheet, under whatever limits.
+pub compiled-type : {bytes : List ℕ} {mode : Mode} {sheet : Sheet} {types : List TypedNode} → judge bytes ≡ sound mode sheet types
+    → {limits : Limits} {type actions rows : ℕ} {written : List ℕ} → Compiles bytes limits (accepts type actions rows) written → type ≡ modeNumber mode
+compiled-type {mode = mode} j (passes other sheet types k answer written b) = built-type b ∙ ap modeNumber (let e : other ≡ mode = cc in e)
+
+module _ (bytes : List ℕ) (limits : Limits) (small : limits .rows ≤ 64) where
   from-built : {mode : Mode} {sheet : Sheet} {types : List TypedNode} → judge bytes ≡ sound mode sheet types → {type actions rows : ℕ} {written : List ℕ}
-      → Builds mode sheet types valueLimit rowLimit (accepts type actions rows) written → CompiledAs bytes type actions rows written
+      → Builds mode sheet types limits (accepts type actions rows) written → CompiledAs bytes type actions rows written
   from-built {mode} {sheet} {types} j (builds tables built last) =
       record {
         sheet = sheet;
@@ -99,17 +99,17 @@ module _ (bytes : List ℕ) (valueLimit rowLimit : ℕ) (small : rowLimit ≤ 64
       }
 
   -- A sheet is compiled to an accepted table that gives its policy's verdict after every sequence.
-  pub compiled-as : {type actions rows : ℕ} {written : List ℕ} → Compiles bytes valueLimit rowLimit (accepts type actions rows) written
+  pub compiled-as : {type actions rows : ℕ} {written : List ℕ} → Compiles bytes limits (accepts type actions rows) written
       → CompiledAs bytes type actions rows written
   compiled-as (passes mode sheet types j answer written b) = from-built j b
 
   -- A compiled table is accepted.
-  pub compiled-accepted : {type actions rows : ℕ} {written : List ℕ} → Compiles bytes valueLimit rowLimit (accepts type actions rows) written → Accepted written
+  pub compiled-accepted : {type actions rows : ℕ} {written : List ℕ} → Compiles bytes limits (accepts type actions rows) written → Accepted written
   compiled-accepted c = compiled-as c .table .accepted
 
   -- the same of the sheet that is read from the bytes
   pub compiled-table : {sheet : Sheet} → ReadAs bytes sheet → {type actions rows : ℕ} {written : List ℕ}
-      → Compiles bytes valueLimit rowLimit (accepts type actions rows) written → TableOf sheet type actions rows written
+      → Compiles bytes limits (accepts type actions rows) written → TableOf sheet type actions rows written
   compiled-table {sheet} r {type} {actions} {rows} {written} c = by (compiled-as c)
     where
       by : CompiledAs bytes type actions rows written → TableOf sheet type actions rows written
@@ -117,6 +117,6 @@ module _ (bytes : List ℕ) (valueLimit rowLimit : ℕ) (small : rowLimit ≤ 64
 
   -- A compiled table gives its policy's verdict after every sequence.
   pub compiled-verdict : {sheet : Sheet} → ReadAs bytes sheet → {type actions rows : ℕ} {written : List ℕ}
-      → Compiles bytes valueLimit rowLimit (accepts type actions rows) written → (w : List ℕ) → Sequence (sheet .actions) w
+      → Compiles bytes limits (accepts type actions rows) written → (w : List ℕ) → Sequence (sheet .actions) w
       → verdict written w ≡ satisfies (propositionsOf sheet) (sheetPolicy sheet) w
   compiled-verdict r c = compiled-table r c .verdicts

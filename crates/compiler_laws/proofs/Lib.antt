@@ -2,6 +2,7 @@ pub mod Outcome
 pub mod CompiledTable
 pub mod SharedRows
 pub mod Demands
+pub mod FaultSpots
 pub mod Spots
 pub mod TooLong
 pub mod Calls

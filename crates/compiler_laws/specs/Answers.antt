@@ -3,15 +3,16 @@
 use mathlib.Core.Path.{_≡_}
 use mathlib.Core.List.{List}
 use Prim.Native.Nat.{ℕ, _<_}
+use Rattle.limits.specs.declared.Limits.{Limits}
 use Rattle.syntax.specs.Faults.{numberOf}
 use Rattle.syntax.specs.declared.Fault.{Fault}
 use Rattle.syntax.specs.declared.Sheet.{Sheet}
 use Rattle.typing.specs.Typed.{faulty}
 use Rattle.renumbering.specs.FirstFault.{FirstFault}
-use Rattle.sheet.specs.Layout.{layoutOf}
-use Rattle.sheet.specs.Judge.{judge, sheetIn}
-use Rattle.sheet.specs.ReadFrom.{ReadFrom}
-use Rattle.sheet.specs.Malformed.{Malformed}
+use Rattle.sheet_layout.specs.Layout.{layoutOf}
+use Rattle.sheet_judge.specs.Judge.{judge, sheetIn}
+use Rattle.sheet_reading.specs.ReadFrom.{ReadFrom}
+use Rattle.sheet_judge.specs.Malformed.{Malformed}
 use Rattle.node_rules.specs.Nodes.{Tables}
 use Rattle.compiler.specs.Compiles.{PolicyNode, BuiltBefore, StopsAt}
 use Rattle.compiler_laws.specs.Demands.{ReadAs}
@@ -30,11 +31,11 @@ pub data FirstFaultIn (bytes : List ℕ) (f : Fault) : Type 0 where
   mistyped : (sheet : Sheet) → ReadFrom bytes sheet → FirstFault sheet f → FirstFaultIn bytes f
 
 -- 8 and 9: checks 1 to 7 pass, every used policy node before n is inside both limits, and node n, a used one, is over this one.
-pub record FirstOver (bytes : List ℕ) (valueLimit rowLimit n number : ℕ) : Type 0 where
+pub record FirstOver (bytes : List ℕ) (limits : Limits) (n number : ℕ) : Type 0 where
   pub sheet : Sheet
   pub read : ReadAs bytes sheet
   pub tables : Tables
   pub inside : n < sheet .count
-  pub before : BuiltBefore sheet (read .types) tables valueLimit rowLimit n
+  pub before : BuiltBefore sheet (read .types) tables limits n
   pub policy : PolicyNode sheet (read .types) n
-  pub over : StopsAt sheet tables valueLimit rowLimit n number
+  pub over : StopsAt sheet tables limits n number

@@ -6,7 +6,7 @@ ghost use Prim.Native.Nat.{_+_, _*_, _<_, _≤_, _%_, _^_};
 ghost use mathlib.Core.List.{_++_};
 ghost use lib.ListN.{length, getD, set, drop, replicate};
 ghost use Rattle.io.specs.Counts.{Counts};
-ghost use Rattle.corpus.specs.Numbers.{wordAt};
+ghost use Rattle.corpus.specs.Numbers.{corpusWord};
 ghost use Rattle.corpus.specs.Progress.{Behind};
 
 // A number, or the length of a block: and whether all of its bytes were there.
@@ -52,7 +52,7 @@ pub fn at(bytes: &[u8], i: usize) -> usize
 // The 16-bit number at i, low byte first.
 pub fn number_at(bytes: &[u8], i: usize) -> usize
     requires { ⌜ i < 65536 ⌝ }
-    ensures { λ r. ⌜ (r ≡ wordAt (now (bytes .entry)) i) × (r < 65536) ⌝ }
+    ensures { λ r. ⌜ (r ≡ corpusWord (now (bytes .entry)) i) × (r < 65536) ⌝ }
 {
     at(bytes, i) + 256 * at(bytes, i + 1)
 }
@@ -67,7 +67,7 @@ pub fn answer_at(bytes: &[u8]) -> usize
 
 // The same where the corpus has all eight bytes of an answer.
 pub fn long_answer_at(bytes: &[u8]) -> usize
-    ensures { λ r. ⌜ r ≡ wordAt (now (bytes .entry)) 0 + 65536 * wordAt (now (bytes .entry)) 2 + 4294967296 * wordAt (now (bytes .entry)) 4 + 281474976710656 * wordAt (now (bytes .entry)) 6 ⌝ }
+    ensures { λ r. ⌜ r ≡ corpusWord (now (bytes .entry)) 0 + 65536 * corpusWord (now (bytes .entry)) 2 + 4294967296 * corpusWord (now (bytes .entry)) 4 + 281474976710656 * corpusWord (now (bytes .entry)) 6 ⌝ }
 {
     let low = number_at(bytes, 0) + 65536 * number_at(bytes, 2);
     low + 4294967296 * number_at(bytes, 4) + 281474976710656 * number_at(bytes, 6)

@@ -15,13 +15,13 @@ use Rattle.policy.specs.declared.Typing.the-variants.{Typed, Untyped}
 use Rattle.policy.specs.Policy.{Policy as APolicy, and-p, satisfies}
 use Rattle.policy.specs.Typing.{alikeTyped}
 use Rattle.syntax.specs.Nodes.{nodeOf, propositionsOf}
+use Rattle.syntax.specs.Shape.{And, Shape, binary, shapeOf, withParts}
 use Rattle.syntax.specs.Formed.{Formed}
 use Rattle.syntax.specs.Types.{typeAt, typingOf, boundFits, found}
-use Rattle.syntax.specs.Meaning.{Meaning, asPolicy, meaningOf, meanings, nodePolicy}
+use Rattle.syntax.specs.Meaning.{Meaning, asPolicy, meaningAt, meaningFrom, meanings, nodePolicy}
 use Rattle.reached.specs.Reached.{itself, onward}
 use Rattle.reached.specs.Parts.{AndPart, left, right, ReachedByAnd, Used}
 use Rattle.typing.specs.Typed.{SoundSheet}
-use Rattle.syntax.specs.declared.Node.the-variants.{And}
 use Rattle.syntax.specs.declared.NodeType.{NodeType}
 use Rattle.syntax.specs.declared.NodeType.the-variants.{Unused, Formula, Policy}
 use Rattle.syntax.specs.declared.Sheet.{Sheet}
@@ -35,13 +35,13 @@ use Rattle.explaining.specs.Denials.{policyNode, satisfiesNode}
 
 module _ (sheet : Sheet) where
   -- An And is satisfied where both of its parts are.
-  pub and-satisfied : (n a b : ℕ) → nodeOf sheet n ≡ And a b → a < n → b < n → (w : List ℕ)
+  pub and-satisfied : (n a b : ℕ) → shapeOf (nodeOf sheet n) ≡ binary And a b → a < n → b < n → (w : List ℕ)
       → satisfiesNode sheet n w ≡ (satisfiesNode sheet a w && satisfiesNode sheet b w)
   and-satisfied n a b e la lb w = ap (λ (p : APolicy). satisfies (propositionsOf sheet) p w) same
     where
       same : nodePolicy sheet n ≡ and-p (nodePolicy sheet a) (nodePolicy sheet b)
       same =
-          ap asPolicy (meaning-of sheet n ∙ ap (meaningOf (meanings (sheet .nodes) n)) e)
+          ap asPolicy (meaning-of sheet n ∙ ap (λ (x : Shape ℕ). meaningFrom (withParts (meaningAt (meanings (sheet .nodes) n)) x)) e)
           ∙ ap₂ (λ (p q : Meaning). and-p (asPolicy p) (asPolicy q)) (meaning-stays sheet n a la) (meaning-stays sheet n b lb)
 
 module _ {sheet : Sheet} (formed : Formed sheet) where
@@ -49,7 +49,7 @@ module _ {sheet : Sheet} (formed : Formed sheet) where
   part-before {n} {m} h p = and-earlier sheet n (λ k g. formed .parts k (omega arith)) n m (omega arith) p
 
   -- The parts of an And stand before it.
-  pub parts-before : (n a b : ℕ) → n < sheet .count → nodeOf sheet n ≡ And a b → (a < n) × (b < n)
+  pub parts-before : (n a b : ℕ) → n < sheet .count → shapeOf (nodeOf sheet n) ≡ binary And a b → (a < n) × (b < n)
   parts-before n a b h e = (part-before h (left e), part-before h (right e))
 
   part-satisfied : {n m : ℕ} → n < sheet .count → AndPart sheet n m → (w : List ℕ) → satisfiesNode sheet n w ≡ true → satisfiesNode sheet m w ≡ true
@@ -100,7 +100,7 @@ typing-of Formula e = absurd (let z : _≡_ {A = ℕ} 0 1 = cc in omega arith)
 typing-of (Policy n j) e = cc
 
 module _ {mode : Mode} {sheet : Sheet} {types : List TypedNode} (s : SoundSheet mode sheet types) where
-  part-modes : (n a b : ℕ) → n < sheet .count → nodeOf sheet n ≡ And a b → {k : Bound} → typeAt types n ≡ Policy mode k
+  part-modes : (n a b : ℕ) → n < sheet .count → shapeOf (nodeOf sheet n) ≡ binary And a b → {k : Bound} → typeAt types n ≡ Policy mode k
       → ((i : Bound) × (typeAt types a ≡ Policy mode i)) × ((j : Bound) × (typeAt types b ≡ Policy mode j))
   part-modes n a b h e {k} t =
       let q : found (alikeTyped (typingOf (typeAt types a)) (typingOf (typeAt types b))) ≡ Fits (Policy mode k) = rw (e, t) at (typed-fits s n h (typed-policy t)) in

@@ -7,6 +7,8 @@ use native.Mathlib.Omega.{arith}
 use lib.ListN.{length}
 use Rattle.trace.specs.declared.Mode.{Mode}
 use Rattle.trace.specs.declared.Mode.the-variants.{Enforced, Watched}
+use Rattle.limits.specs.Lengths.{workLength}
+use Rattle.limits.specs.declared.Limits.{Limits}
 use Rattle.table.specs.Answer.{modeNumber}
 use Rattle.syntax.specs.declared.Sheet.{Sheet}
 use Rattle.compiler.specs.Compiles.{builds}
@@ -15,23 +17,23 @@ use Rattle.compiler.proofs.Passed.{passed}
 use Rattle.explaining.specs.Explains.{Explanation, refused, CompiledSheet, Explains, watched, finds}
 use Rattle.explaining.specs.Reading.{FindsBy, Standing}
 
-module _ {bytes : List ℕ} {valueLimit rowLimit : ℕ} {mode : Mode} {sheet : Sheet} {rows : ℕ} {work : List ℕ}
-    (s : SheetStands bytes valueLimit rowLimit mode sheet rows work) where
-  compiled-sheet : CompiledSheet bytes valueLimit rowLimit mode sheet
+module _ {bytes : List ℕ} {limits : Limits} {mode : Mode} {sheet : Sheet} {rows : ℕ} {work : List ℕ}
+    (s : SheetStands bytes limits mode sheet rows work) where
+  compiled-sheet : CompiledSheet bytes limits mode sheet
   compiled-sheet =
       record { types = s .types; judged = s .judged; rows = s .nodes .last .rows; table = _; builds = builds (s .nodes .tables) (s .nodes .built) (s .nodes .last) }
 
-  pub standing : 65536 ≤ length work → Standing mode sheet work
+  pub standing : workLength ≤ length work → Standing mode sheet work
   standing room =
-      record { types = s .types; right = passed bytes (s .judged); valueLimit = valueLimit; rowLimit = rowLimit; rows = rows; nodes = s .nodes; room = room }
+      record { types = s .types; right = passed bytes (s .judged); limits = limits; rows = rows; nodes = s .nodes; room = room }
 
-  pub explained : (list : List ℕ) (answer : Explanation) (written : List ℕ) → FindsBy mode sheet list answer written → Explains bytes list valueLimit rowLimit answer written
+  pub explained : (list : List ℕ) (answer : Explanation) (written : List ℕ) → FindsBy mode sheet list answer written → Explains bytes list limits answer written
   explained list answer written = by mode compiled-sheet
     where
-      by : (m : Mode) → CompiledSheet bytes valueLimit rowLimit m sheet → FindsBy m sheet list answer written → Explains bytes list valueLimit rowLimit answer written
+      by : (m : Mode) → CompiledSheet bytes limits m sheet → FindsBy m sheet list answer written → Explains bytes list limits answer written
       by Watched c f =
-          subst (λ (x : Explanation). Explains bytes list valueLimit rowLimit x written) (sym (f .0))
-          (subst (Explains bytes list valueLimit rowLimit (refused 34 0)) (sym (f .1)) (watched sheet c))
+          subst (λ (x : Explanation). Explains bytes list limits x written) (sym (f .0))
+          (subst (Explains bytes list limits (refused 34 0)) (sym (f .1)) (watched sheet c))
       by Enforced c f = finds sheet c answer written f
 
 -- a mode by its number

@@ -2,33 +2,30 @@
 -- Assumes nothing.
 use mathlib.Core.List.{List, [], _∷_}
 use Prim.Native.Nat.{ℕ}
+use Rattle.limits.specs.Limits.{largest}
 use Rattle.making.specs.Making.{AnswersInto}
-use Rattle.syntax.specs.Faults.{numberOf, spotOf}
+use Rattle.compiler.specs.Refusals.{numberOfRefusal, spotOfRefusal}
 use Rattle.explaining.specs.Explains.{Explanation, no-denial, denied, refused, Explains}
 use Rattle.explaining.specs.declared.Explained.{Explained}
-use Rattle.explaining.specs.declared.Explained.the-variants.{NoDenial, Denied, ShortArea, Faulty, TooManyValues, TooManyRows, WatchedSheet, NoAction}
+use Rattle.explaining.specs.declared.Explained.the-variants.{NoDenial, Denied, ShortArea, Refused, WatchedSheet, NoAction}
 
 abbrev pub answerOf : Explained → Explanation
 answerOf NoDenial = no-denial
 answerOf (Denied place node) = denied place node
 answerOf ShortArea = refused 14 0
-answerOf (Faulty f) = refused (numberOf f) (spotOf f)
-answerOf (TooManyValues n) = refused 8 n
-answerOf (TooManyRows n) = refused 9 n
+answerOf (Refused r) = refused (numberOfRefusal r) (spotOfRefusal r)
 answerOf WatchedSheet = refused 34 0
 answerOf NoAction = refused 12 0
 
 -- The public call: the answer, and every byte of the lent areas. The place of a denial is the first number of the output, which has at least one.
 abbrev pub ExplainsInto : (bytes list out work values : List ℕ) → Explanation → List ℕ → List ℕ → List ℕ → Type 0
-ExplainsInto bytes list out work values = AnswersInto 1 (refused 14 0) (Explains bytes list 1024 64) out work values
+ExplainsInto bytes list out work values = AnswersInto 1 (refused 14 0) (Explains bytes list largest) out work values
 
 -- What is written: the place of a denial.
 abbrev pub placeOf : Explained → List ℕ
 placeOf NoDenial = []
 placeOf (Denied place node) = place ∷ []
 placeOf ShortArea = []
-placeOf (Faulty f) = []
-placeOf (TooManyValues n) = []
-placeOf (TooManyRows n) = []
+placeOf (Refused r) = []
 placeOf WatchedSheet = []
 placeOf NoAction = []

@@ -7,12 +7,13 @@ use lib.ListN.{take}
 use Rattle.trace.specs.Trace.{Sequence}
 use Rattle.trace.specs.declared.Mode.{Mode}
 use Rattle.trace.specs.declared.Mode.the-variants.{Enforced, Watched}
+use Rattle.limits.specs.declared.Limits.{Limits}
 use Rattle.table.specs.Answer.{accepted, modeNumber}
 use Rattle.table.specs.Answer.{refused as compiler-refused}
 use Rattle.typing.specs.Typed.{sound}
 use Rattle.syntax.specs.declared.Sheet.{Sheet}
 use Rattle.syntax.specs.declared.TypedNode.{TypedNode}
-use Rattle.sheet.specs.Judge.{judge}
+use Rattle.sheet_judge.specs.Judge.{judge}
 use Rattle.compiler.specs.Compiles.{Builds, Compiles}
 use Rattle.explaining.specs.Denials.{NotAnAction, NoneDenied, FirstDenied, LowestViolated}
 
@@ -23,12 +24,12 @@ pub data Explanation : Type 0 where
   refused : (number spot : ℕ) → Explanation
 
 -- The bytes are compiled: they are judged to be this sheet, of this mode, and the sheet gets a table.
-pub record CompiledSheet (bytes : List ℕ) (valueLimit rowLimit : ℕ) (mode : Mode) (sheet : Sheet) : Type 0 where
+pub record CompiledSheet (bytes : List ℕ) (limits : Limits) (mode : Mode) (sheet : Sheet) : Type 0 where
   pub types : List TypedNode
   pub judged : judge bytes ≡ sound mode sheet types
   pub rows : ℕ
   pub table : List ℕ
-  pub builds : Builds mode sheet types valueLimit rowLimit (accepted (modeNumber mode) (sheet .actions) rows) table
+  pub builds : Builds mode sheet types limits (accepted (modeNumber mode) (sheet .actions) rows) table
 
 -- What an enforced sheet gives. The list of numbers is what is written: the place of a denial.
 pub data Finds (sheet : Sheet) (list : List ℕ) : Explanation → List ℕ → Type 0 where
@@ -39,12 +40,12 @@ pub data Finds (sheet : Sheet) (list : List ℕ) : Explanation → List ℕ → 
       → Finds sheet list (denied place node) (place ∷ [])
 
 -- What explaining any bytes and any list gives. The limits on remembered values and rows are parameters.
-pub data Explains (bytes list : List ℕ) (valueLimit rowLimit : ℕ) : Explanation → List ℕ → Type 0 where
+pub data Explains (bytes list : List ℕ) (limits : Limits) : Explanation → List ℕ → Type 0 where
   -- 1 to 9: what the compiler refuses
-  not-compiled : (number spot : ℕ) → Compiles bytes valueLimit rowLimit (compiler-refused number spot) []
-      → Explains bytes list valueLimit rowLimit (refused number spot) []
+  not-compiled : (number spot : ℕ) → Compiles bytes limits (compiler-refused number spot) []
+      → Explains bytes list limits (refused number spot) []
   -- 34: a watched sheet
-  watched : (sheet : Sheet) → CompiledSheet bytes valueLimit rowLimit Watched sheet → Explains bytes list valueLimit rowLimit (refused 34 0) []
+  watched : (sheet : Sheet) → CompiledSheet bytes limits Watched sheet → Explains bytes list limits (refused 34 0) []
   -- 12, or what is found
-  finds : (sheet : Sheet) → CompiledSheet bytes valueLimit rowLimit Enforced sheet → (answer : Explanation) (written : List ℕ)
-      → Finds sheet list answer written → Explains bytes list valueLimit rowLimit answer written
+  finds : (sheet : Sheet) → CompiledSheet bytes limits Enforced sheet → (answer : Explanation) (written : List ℕ)
+      → Finds sheet list answer written → Explains bytes list limits answer written

@@ -9,6 +9,8 @@ use Rattle.base.specs.Sets.{bit}
 use Rattle.trace.specs.Trace.{Sequence, Step, trips}
 use Rattle.trace.specs.declared.Mode.{Mode}
 use Rattle.trace.specs.declared.Mode.the-variants.{Enforced, Watched}
+use Rattle.limits.specs.Lengths.{workLength}
+use Rattle.limits.specs.declared.Limits.{Limits}
 use Rattle.typing.specs.Typed.{SoundSheet}
 use Rattle.syntax.specs.declared.Sheet.{Sheet}
 use Rattle.syntax.specs.declared.TypedNode.{TypedNode}
@@ -18,7 +20,7 @@ use Rattle.explaining.specs.Explains.{Explanation, refused, Finds}
 
 -- What reading is lent: a slot that can be read, and actions alone.
 pub record Walkable (work : List ℕ) (node actions : ℕ) (list : List ℕ) : Type 0 where
-  pub room : 65536 ≤ length work
+  pub room : workLength ≤ length work
   pub readable : Readable work node
   pub few : actions ≤ 16
   pub sequence : Sequence actions list
@@ -31,7 +33,7 @@ pub record FirstTrip (step : Step ℕ) (list : List ℕ) (k : ℕ) : Type 0 wher
 
 -- What naming is lent: the slots of the set's nodes below the last can be read.
 pub record Namable (work : List ℕ) (set last actions : ℕ) (list : List ℕ) : Type 0 where
-  pub room : 65536 ≤ length work
+  pub room : workLength ≤ length work
   pub listed : last < 64
   pub readable : (n : ℕ) → n < last → bit set n ≡ true → Readable work n
   pub few : actions ≤ 16
@@ -52,8 +54,7 @@ FindsBy Enforced sheet list answer written = Finds sheet list answer written
 pub record Standing (mode : Mode) (sheet : Sheet) (work : List ℕ) : Type 0 where
   pub types : List TypedNode
   pub right : SoundSheet mode sheet types
-  pub valueLimit : ℕ
-  pub rowLimit : ℕ
+  pub limits : Limits
   pub rows : ℕ
-  pub nodes : NodesStand sheet types valueLimit rowLimit rows work
-  pub room : 65536 ≤ length work
+  pub nodes : NodesStand sheet types limits rows work
+  pub room : workLength ≤ length work

@@ -5,6 +5,10 @@ use crate::reading::first_trip;
 use crate::reading::lowest_tripped;
 use compiler::NodesBuilt;
 use compiler::build_sheet;
+use limits::LARGEST;
+use limits::Limits;
+use limits::NUMBERS_LENGTH;
+use limits::WORK_LENGTH;
 use making::long_enough;
 use reached::reached_by_and;
 use syntax::Sheet;
@@ -14,6 +18,8 @@ ghost use mathlib.Core.Path.{_≡_};
 ghost use mathlib.Core.List.{_++_};
 ghost use Prim.Native.Nat.{_≤_};
 ghost use lib.ListN.{length, drop};
+ghost use Rattle.limits.specs.Lengths.{workLength, numbersLength};
+ghost use Rattle.limits.specs.Limits.{largest};
 ghost use Rattle.making.specs.Making.{Workable, Zeroed, WritesTo};
 ghost use Rattle.explaining.specs.Explains.{Explains};
 ghost use Rattle.explaining.specs.Calling.{answerOf, placeOf, ExplainsInto};
@@ -55,18 +61,15 @@ fn explain_with(
     list: &[u8],
     work: &mut [u8],
     values: &mut [u64],
-    value_limit: usize,
-    row_limit: usize,
+    limits: Limits,
 ) -> Explained
-    requires { ⌜ Workable «value_limit» «row_limit» (now work) (now values) ⌝ }
-    ensures { λ r. ⌜ Explains (now (sheet .entry)) (now (list .entry)) «value_limit» «row_limit» (answerOf r) (placeOf r) ⌝ }
+    requires { ⌜ Workable limits (now work) (now values) ⌝ }
+    ensures { λ r. ⌜ Explains (now (sheet .entry)) (now (list .entry)) limits (answerOf r) (placeOf r) ⌝ }
 {
-    let standing = build_sheet(sheet, work, values, value_limit, row_limit);
+    let standing = build_sheet(sheet, work, values, limits);
     let built = standing.built;
     match built {
-        NodesBuilt::NotSound(fault) => Explained::Faulty(fault),
-        NodesBuilt::ValuesAt(n) => Explained::TooManyValues(n),
-        NodesBuilt::RowsAt(n) => Explained::TooManyRows(n),
+        NodesBuilt::Refused(refusal) => Explained::Refused(refusal),
         NodesBuilt::Rows { mode, rows: _ } => {
             let read = standing.sheet;
             find_denial(mode, read, list, work)
@@ -85,9 +88,7 @@ fn write_place(explained: Explained, out: &mut [u64])
             out[0] = place as u64;
         }
         Explained::ShortArea => {}
-        Explained::Faulty(_) => {}
-        Explained::TooManyValues(_) => {}
-        Explained::TooManyRows(_) => {}
+        Explained::Refused(_) => {}
         Explained::WatchedSheet => {}
         Explained::NoAction => {}
     }
@@ -102,13 +103,13 @@ fn explain_in(
     values: &mut [u64],
 ) -> Explained
     requires { ⌜ 1 ≤ length (now out) ⌝ }
-    requires { ⌜ length (now work) ≡ 65536 ⌝ }
-    requires { ⌜ length (now values) ≡ 1024 ⌝ }
-    ensures { λ r. ⌜ WritesTo (Explains (now (sheet .entry)) (now (list .entry)) 1024 64) (answerOf r) (now (out .entry)) (now (out .exit)) ⌝ }
+    requires { ⌜ length (now work) ≡ workLength ⌝ }
+    requires { ⌜ length (now values) ≡ numbersLength ⌝ }
+    ensures { λ r. ⌜ WritesTo (Explains (now (sheet .entry)) (now (list .entry)) largest) (answerOf r) (now (out .entry)) (now (out .exit)) ⌝ }
     ensures { λ _. ⌜ Zeroed (now (work .entry)) (now (work .exit)) ⌝ }
     ensures { λ _. ⌜ Zeroed (now (values .entry)) (now (values .exit)) ⌝ }
 {
-    let explained = explain_with(sheet, list, work, values, 1024, 64);
+    let explained = explain_with(sheet, list, work, values, LARGEST);
     base::fill(work, 0);
     base::clear_numbers(values);
     write_place(explained, out);
@@ -127,7 +128,13 @@ pub fn explain(
     ensures { λ r. ⌜ ExplainsInto (now (sheet .entry)) (now (list .entry)) (now (out .entry)) (now (work .entry)) (now (values .entry)) (answerOf r) (now (out .exit)) (now (work .exit)) (now (values .exit)) ⌝ }
 {
     if long_enough(1, out.len(), work.len(), values.len()) {
-        return explain_in(sheet, list, out, &mut work[..65536], &mut values[..1024]);
+        return explain_in(
+            sheet,
+            list,
+            out,
+            &mut work[..WORK_LENGTH],
+            &mut values[..NUMBERS_LENGTH],
+        );
     }
     Explained::ShortArea
 }

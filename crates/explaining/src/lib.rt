@@ -4,17 +4,15 @@ mod call;
 mod reading;
 
 pub use call::explain;
-use syntax::Fault;
+use compiler::Refusal;
 
 // What explaining answers: no action of the list is denied; or the place of the first denied one, from 0, and the node that is named for it; or a
-// refusal.
+// refusal, the compiler's or one of its own.
 pub enum Explained {
     NoDenial,
     Denied { place: usize, node: usize },
     ShortArea,
-    Faulty(Fault),
-    TooManyValues(usize),
-    TooManyRows(usize),
+    Refused(Refusal),
     WatchedSheet,
     NoAction,
 }

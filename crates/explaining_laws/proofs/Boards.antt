@@ -13,7 +13,7 @@ use Rattle.view.specs.View.{View, Change}
 use Rattle.view.specs.Steps.{Reply, permitted, denied, act}
 use Rattle.runs.specs.Runs.{StepOn, Run}
 use Rattle.runs.specs.Events.{Event, event, rule, onPlace}
-use Rattle.runs.specs.Verdicts.{Listed, Judges, permits, denies-lowest}
+use Rattle.runs.specs.Verdicts.{ActionListed, Judges, permits, denies-lowest}
 use Rattle.syntax.specs.declared.Sheet.{Sheet}
 use Rattle.compiler_laws.proofs.CompiledTable.{TableOf}
 use Rattle.runs.proofs.Reports.{before}
@@ -52,7 +52,7 @@ module _ {sheet : Sheet} {table : List ℕ} {actions rows : ℕ} (t : TableOf sh
         stops place (v .on ∙ ap₂ rule e q)
         (sym (t .verdicts (w ++ (action ∷ [])) s) ∙ sym (ap₂ (λ (l u : List ℕ). verdict l (u ++ (action ∷ []))) e q) ∙ v .violated)
 
-    listed : Listed events action
+    listed : ActionListed events action
     listed =
         let (i, on) = holds .each table (List·Memᴰ·head refl) in
         record {

@@ -7,12 +7,13 @@ use native.Mathlib.Omega.{arith}
 use Rattle.trace.specs.declared.Mode.{Mode}
 use Rattle.policy.specs.Policy.{satisfies}
 use Rattle.syntax.specs.Nodes.{propositionsOf}
+use Rattle.syntax.specs.Shape.{withParts}
 use Rattle.syntax.specs.declared.Sheet.{Sheet}
 use Rattle.syntax.specs.declared.TypedNode.{TypedNode}
 use Rattle.reached.specs.Reached.{itself, onward}
 use Rattle.reached.specs.Parts.{AndPart, left, right, ReachedByAnd, Used}
 use Rattle.typing.specs.Typed.{SoundSheet}
-use Rattle.renumbering.specs.SameUsed.{renumbered, SameUsed}
+use Rattle.renumbering.specs.SameUsed.{SameUsed}
 use Rattle.renumbering.proofs.Numbering.{last-to-last, order-back}
 use Rattle.renumbering.proofs.Meanings.{policy-alike, sheet-policy-alike}
 use Rattle.renumbering.proofs.Equivalence.{same-back, there-again}
@@ -24,8 +25,8 @@ module _ {mode mode' : Mode} {sheet other : Sheet} {types types' : List TypedNod
     (s' : SoundSheet mode' other types') (same : SameUsed sheet other) where
   -- the parts of an And go to the parts of an And
   part-along : {n m : ℕ} → Used sheet n → AndPart sheet n m → AndPart other (same .to n) (same .to m)
-  part-along {n} u (left e) = left (same .nodes n u ∙ ap (renumbered (same .to)) e)
-  part-along {n} u (right e) = right (same .nodes n u ∙ ap (renumbered (same .to)) e)
+  part-along {n} u (left e) = left (same .nodes n u ∙ ap (withParts (same .to)) e)
+  part-along {n} u (right e) = right (same .nodes n u ∙ ap (withParts (same .to)) e)
 
   -- What is reached from the one policy through And alone goes to what is reached so from the other.
   pub reached-along : {m : ℕ} → ReachedByAnd sheet (policyNode sheet) m → ReachedByAnd other (policyNode other) (same .to m)

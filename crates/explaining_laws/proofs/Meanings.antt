@@ -11,13 +11,15 @@ use lib.ListN.{take}
 use lib.Seq.{take-append-le}
 use Rattle.base.proofs.Truths.{both-true}
 use Rattle.trace.specs.Trace.{Sequence}
+use Rattle.trace.specs.declared.Mode.the-variants.{Enforced}
 use Rattle.trace.proofs.Laws.{sequence-append}
+use Rattle.limits.specs.declared.Limits.{Limits}
 use Rattle.policy.proofs.Congruent.{sequence-take}
 use Rattle.syntax.specs.declared.Sheet.{Sheet}
 use Rattle.compiler_laws.specs.Demands.{SameSatisfied}
 use Rattle.board_policies.specs.Policies.{satisfiesSheet}
 use Rattle.explaining.specs.Denials.{NoneDenied, FirstDenied, LowestViolated}
-use Rattle.explaining.specs.Explains.{Explanation, denied, Explains, first-denied, finds}
+use Rattle.explaining.specs.Explains.{Explanation, denied, CompiledSheet, Explains, first-denied, finds}
 use Rattle.explaining_laws.specs.Answers.{Explainable, Outcome, permits, denies, writtenFor}
 use Rattle.explaining_laws.specs.Meanings.{SaysBoth}
 use Rattle.explaining_laws.proofs.Places.{none-or-denied, one-place}
@@ -37,26 +39,27 @@ module _ {sheet other : Sheet} (same : SameSatisfied sheet other) (list : List �
   same-first {place} d =
       record { inside = d .inside; permitted = λ k h. sym (at k) ∙ d .permitted k h; denied = sym (at (suc place)) ∙ d .denied }
 
-module _ {bytes bytes' list : List ℕ} {valueLimit rowLimit : ℕ} {sheet other : Sheet} (same : SameSatisfied sheet other)
-    (can : Explainable bytes list valueLimit rowLimit sheet) (can' : Explainable bytes' list valueLimit rowLimit other) where
+module _ {bytes bytes' list : List ℕ} {limits limits' : Limits} {sheet other : Sheet} (same : SameSatisfied sheet other)
+    (can : Explainable bytes list limits sheet) (can' : Explainable bytes' list limits' other) where
   written-same : {x y : Explanation} → Outcome sheet list x → Outcome other list y → writtenFor x ≡ writtenFor y
   written-same (permits n) (permits m) = refl
   written-same (permits n) (denies place node d) = none-or-denied (same-none same list (can .actions) n) (d .first)
   written-same (denies place node d) (permits n) = none-or-denied n (same-first same list (can .actions) (d .first))
   written-same (denies place node d) (denies place' node' e) = ap (λ (k : ℕ). k ∷ []) (one-place (same-first same list (can .actions) (d .first)) (e .first))
 
-  -- Two sheets whose policies the same sequences satisfy get the same place for a list, or none of it is denied for both; the nodes may differ.
-  pub same-place : {x y : Explanation} {t u : List ℕ} → Explains bytes list valueLimit rowLimit x t → Explains bytes' list valueLimit rowLimit y u
+  -- Two sheets whose policies the same sequences satisfy, each under limits of its own, get the same place for a list, or none of it is denied for
+  -- both; the nodes may differ.
+  pub same-place : {x y : Explanation} {t u : List ℕ} → Explains bytes list limits x t → Explains bytes' list limits' y u
       → writtenFor x ≡ writtenFor y
   same-place e f = written-same (explained-outcome can e) (explained-outcome can' f)
 
--- Actions behind the first denied one change neither the place nor the node.
-pub explains-more : {bytes list : List ℕ} {valueLimit rowLimit : ℕ} {sheet : Sheet} → Explainable bytes list valueLimit rowLimit sheet
-    → {place node : ℕ} {written : List ℕ} → Explains bytes list valueLimit rowLimit (denied place node) written
-    → (more : List ℕ) → Sequence (sheet .actions) more → Explains bytes (list ++ more) valueLimit rowLimit (denied place node) (place ∷ [])
-explains-more {list = list} {sheet = sheet} can {place} {node} e more s =
+-- Actions behind the first denied one change neither the place nor the node, under any limits that the sheet is inside.
+pub explains-more : {bytes list : List ℕ} {limits limits' : Limits} {sheet : Sheet} → Explainable bytes list limits sheet → CompiledSheet bytes limits' Enforced sheet
+    → {place node : ℕ} {written : List ℕ} → Explains bytes list limits (denied place node) written
+    → (more : List ℕ) → Sequence (sheet .actions) more → Explains bytes (list ++ more) limits' (denied place node) (place ∷ [])
+explains-more {list = list} {sheet = sheet} can inside {place} {node} e more s =
     let d = denied-exactly e can place node .0 refl in
-    finds sheet (can .compiled) (denied place node) (place ∷ [])
+    finds sheet inside (denied place node) (place ∷ [])
     (first-denied (sequence-append (sheet .actions) list more (can .actions) s) place node (first-denied-more sheet list more (d .first))
     (subst (λ (w : List ℕ). LowestViolated sheet w node) (sym (take-append-le (suc place) list more (d .first .inside))) (d .lowest)))
 

@@ -1,6 +1,6 @@
 -- The node that is named for a denial: an enforced policy of the sheet and no And, first violated by the denied action.
 -- Assumes nothing.
-use mathlib.Core.Path.{_≡_, refl, sym, _∙_}
+use mathlib.Core.Path.{_≡_, refl, sym, ap, _∙_}
 use mathlib.Core.Bool.{true}
 use mathlib.Core.List.{List}
 use Prim.Native.Nat.{ℕ, _≤_}
@@ -8,7 +8,9 @@ use lib.ListN.{take}
 use Rattle.base.proofs.Truths.{both-true}
 use Rattle.trace.specs.declared.Mode.the-variants.{Enforced}
 use Rattle.trace.proofs.Laws.{not-both}
+use Rattle.limits.specs.declared.Limits.{Limits}
 use Rattle.syntax.specs.Nodes.{nodeOf}
+use Rattle.syntax.specs.Shape.{shapeOf}
 use Rattle.syntax.specs.Formed.{Formed}
 use Rattle.reached.specs.Reached.{onward}
 use Rattle.reached.specs.Parts.{left, right}
@@ -33,10 +35,11 @@ module _ {sheet : Sheet} (formed : Formed sheet) where
   -- It is never an And: an And that is violated has a violated part, and its parts stand before it.
   pub named-no-and : {w : List ℕ} {node : ℕ} → LowestViolated sheet w node → (a b : ℕ) → nodeOf sheet node ≡ And a b → ⊥
   named-no-and {w} {node} l a b e =
-      let (la, lb) = parts-before formed node a b (reached-inside formed (policy-inside formed) (l .reached)) e in
+      let is = ap shapeOf e in
+      let (la, lb) = parts-before formed node a b (reached-inside formed (policy-inside formed) (l .reached)) is in
       not-both
-      (sym (both-true (l .lowest a la (onward (l .reached) (left e))) (l .lowest b lb (onward (l .reached) (right e))))
-      ∙ sym (and-satisfied sheet node a b e la lb w)
+      (sym (both-true (l .lowest a la (onward (l .reached) (left is))) (l .lowest b lb (onward (l .reached) (right is))))
+      ∙ sym (and-satisfied sheet node a b is la lb w)
       ∙ l .violated)
 
 -- What the named node of a sound enforced sheet is.
@@ -54,7 +57,7 @@ named-is s d =
     }
 
 -- What the node of an answer is.
-pub named-node : {bytes list : List ℕ} {valueLimit rowLimit : ℕ} {sheet : Sheet} (can : Explainable bytes list valueLimit rowLimit sheet)
-    → {place node : ℕ} {written : List ℕ} → Explains bytes list valueLimit rowLimit (denied place node) written
+pub named-node : {bytes list : List ℕ} {limits : Limits} {sheet : Sheet} (can : Explainable bytes list limits sheet)
+    → {place node : ℕ} {written : List ℕ} → Explains bytes list limits (denied place node) written
     → NamedNode sheet (can .compiled .types) list place node
 named-node {bytes} can {place} {node} e = named-is (passed bytes (can .compiled .judged)) (denied-exactly e can place node .0 refl)

@@ -7,6 +7,8 @@ use native.Mathlib.Omega.{arith}
 use lib.ListN.{take}
 use Rattle.trace.specs.declared.Mode.{Mode}
 use Rattle.trace.specs.declared.Mode.the-variants.{Enforced, Watched}
+use Rattle.limits.specs.declared.Limits.{Limits}
+use Rattle.limits.specs.Limits.{largest}
 use Rattle.table.specs.Answer.{accepted, modeNumber}
 use Rattle.table.specs.Answer.{refused as compiler-refused}
 use Rattle.making.proofs.Calls.{made-determined}
@@ -18,27 +20,27 @@ use Rattle.explaining.specs.Explains.{Explanation, denied, refused, CompiledShe
 use Rattle.explaining.specs.Calling.{ExplainsInto}
 use Rattle.explaining_laws.proofs.Places.{not-outside, none-or-denied, one-place, one-node}
 
-module _ {bytes : List ℕ} {valueLimit rowLimit : ℕ} where
+module _ {bytes : List ℕ} {limits : Limits} where
   -- What is compiled gets a table.
-  pub compiled-gets : {mode : Mode} {sheet : Sheet} (c : CompiledSheet bytes valueLimit rowLimit mode sheet)
-      → Compiles bytes valueLimit rowLimit (accepted (modeNumber mode) (sheet .actions) (c .rows)) (c .table)
+  pub compiled-gets : {mode : Mode} {sheet : Sheet} (c : CompiledSheet bytes limits mode sheet)
+      → Compiles bytes limits (accepted (modeNumber mode) (sheet .actions) (c .rows)) (c .table)
   compiled-gets {mode} {sheet} c = passes mode sheet (c .types) (c .judged) _ _ (c .builds)
 
   -- What is compiled is not refused.
-  pub not-refused : {X : Type 0} {mode : Mode} {sheet : Sheet} → CompiledSheet bytes valueLimit rowLimit mode sheet → {number spot : ℕ}
-      → Compiles bytes valueLimit rowLimit (compiler-refused number spot) [] → X
+  pub not-refused : {X : Type 0} {mode : Mode} {sheet : Sheet} → CompiledSheet bytes limits mode sheet → {number spot : ℕ}
+      → Compiles bytes limits (compiler-refused number spot) [] → X
   not-refused c r =
-      let e = compiles-determined bytes valueLimit rowLimit (compiled-gets c) r .0 in
+      let e = compiles-determined bytes limits (compiled-gets c) r .0 in
       absurd (let z : _≡_ {A = ℕ} 0 1 = cc in omega arith)
 
   -- One sheet is compiled.
-  pub one-sheet : {mode other : Mode} {sheet sheet' : Sheet} → CompiledSheet bytes valueLimit rowLimit mode sheet
-      → CompiledSheet bytes valueLimit rowLimit other sheet' → sheet ≡ sheet'
+  pub one-sheet : {mode other : Mode} {sheet sheet' : Sheet} → CompiledSheet bytes limits mode sheet
+      → CompiledSheet bytes limits other sheet' → sheet ≡ sheet'
   one-sheet c d = cc (c .judged, d .judged)
 
   -- It has one mode.
-  pub not-watched : {X : Type 0} {sheet sheet' : Sheet} → CompiledSheet bytes valueLimit rowLimit Enforced sheet
-      → CompiledSheet bytes valueLimit rowLimit Watched sheet' → X
+  pub not-watched : {X : Type 0} {sheet sheet' : Sheet} → CompiledSheet bytes limits Enforced sheet
+      → CompiledSheet bytes limits Watched sheet' → X
   not-watched c d = absurd (let z : _≡_ {A = ℕ} 0 1 = cc (c .judged, d .judged) in omega arith)
 
 -- What an enforced sheet gives is one answer.
@@ -56,12 +58,12 @@ finds-determined {sheet} {list} (first-denied s place node f l) (first-denied r 
     let d = one-node l (subst (λ (p : ℕ). LowestViolated sheet (take (suc p) list) node') (sym e) m) in
     (ap₂ denied e d, ap (λ (p : ℕ). p ∷ []) e)
 
-module _ {bytes list : List ℕ} {valueLimit rowLimit : ℕ} where
+module _ {bytes list : List ℕ} {limits : Limits} where
   -- One answer, and one thing written, for each sheet, list and limits.
-  pub explains-determined : {x y : Explanation} {t u : List ℕ} → Explains bytes list valueLimit rowLimit x t → Explains bytes list valueLimit rowLimit y u
+  pub explains-determined : {x y : Explanation} {t u : List ℕ} → Explains bytes list limits x t → Explains bytes list limits y u
       → (x ≡ y) × (t ≡ u)
   explains-determined (not-compiled number spot c) (not-compiled number' spot' d) =
-      let e = compiles-determined bytes valueLimit rowLimit c d .0 in
+      let e = compiles-determined bytes limits c d .0 in
       let n : number ≡ number' = cc in
       let s : spot ≡ spot' = cc in
       (ap₂ refused n s, refl)
@@ -77,4 +79,4 @@ module _ {bytes list : List ℕ} {valueLimit rowLimit : ℕ} where
 -- The contract of the call determines the answer and every byte of the lent areas.
 pub explain-call-determined : {bytes list out work values : List ℕ} {x y : Explanation} {o p w q v r : List ℕ}
     → ExplainsInto bytes list out work values x o w v → ExplainsInto bytes list out work values y p q r → (x ≡ y) × (o ≡ p) × (w ≡ q) × (v ≡ r)
-explain-call-determined {bytes} {list} = made-determined (Explains bytes list 1024 64) (λ x y t u c d. explains-determined c d)
+explain-call-determined {bytes} {list} = made-determined (Explains bytes list largest) (λ x y t u c d. explains-determined c d)

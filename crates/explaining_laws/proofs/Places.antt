@@ -12,7 +12,7 @@ use Rattle.trace.specs.Trace.{Sequence}
 use Rattle.trace.specs.declared.Mode.the-variants.{Enforced}
 use Rattle.trace.proofs.Laws.{not-both}
 use Rattle.policy.specs.declared.Typing.the-variants.{Typed}
-use Rattle.policy.specs.Typing.{typeOf}
+use Rattle.policy.specs.Typing.{policyType}
 use Rattle.policy.proofs.Typings.{typed-as}
 use Rattle.policy.proofs.Rules.{policy-lasting, enforced-satisfied}
 use Rattle.syntax.specs.Nodes.{propositionsOf}
@@ -55,7 +55,7 @@ pub begins-satisfied : {sheet : Sheet} {types : List TypedNode} → SoundSheet E
 begins-satisfied {sheet} {types} s =
     enforced-satisfied (propositionsOf sheet) (sheetPolicy sheet) (s .bound) has [] ∙ ap not (policy-lasting (propositionsOf sheet) (sheetPolicy sheet) (typed-as has) .empty)
   where
-    has : typeOf (sheetPolicy sheet) ≡ Typed Enforced (s .bound)
+    has : policyType (sheetPolicy sheet) ≡ Typed Enforced (s .bound)
     has = policy-of sheet types s (policyNode sheet) (omega (arith, s .formed .some-node)) (s .last)
 
 module _ {sheet : Sheet} {types : List TypedNode} (s : SoundSheet Enforced sheet types) (list : List ℕ) where

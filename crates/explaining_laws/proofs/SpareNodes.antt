@@ -9,6 +9,8 @@ use lib.ListN.{length, drop}
 use Rattle.trace.specs.Trace.{Sequence}
 use Rattle.trace.specs.declared.Mode.{Mode}
 use Rattle.trace.specs.declared.Mode.the-variants.{Enforced}
+use Rattle.limits.specs.declared.Limits.{Limits}
+use Rattle.limits.specs.Limits.{largest}
 use Rattle.table.specs.Answer.{Answer, accepted}
 use Rattle.table.specs.Answer.{refused as compiler-refused}
 use Rattle.making.specs.Making.{AreasFor, short, makes}
@@ -17,9 +19,10 @@ use Rattle.syntax.specs.declared.TypedNode.{TypedNode}
 use Rattle.typing.specs.Typed.{Judgement, sound, SoundSheet}
 use Rattle.renumbering.specs.SameUsed.{SameUsed}
 use Rattle.renumbering.proofs.Judged.{Told, at-fault, no-faults, told}
-use Rattle.sheet.specs.Judge.{judge}
-use Rattle.sheet.specs.ReadFrom.{ReadFrom}
-use Rattle.sheet.proofs.ReadFrom.{formed-from, judge-from}
+use Rattle.sheet_judge.specs.Judge.{judge}
+use Rattle.sheet_reading.specs.ReadFrom.{ReadFrom}
+use Rattle.sheet_reading.proofs.ReadFrom.{formed-from}
+use Rattle.sheet_judge.proofs.JudgedFrom.{judge-from}
 use Rattle.compiler.specs.Compiles.{Compiles}
 use Rattle.compiler.proofs.Passed.{passed}
 use Rattle.compiler_laws.specs.Demands.{OneActionList}
@@ -83,17 +86,17 @@ module _ {bytes other : List ℕ} {sheet sheet' : Sheet} (read : ReadFrom bytes 
         settled (both-denied place node)
         (first-denied (there q) place (same .to node) (same-first (policies-along s s' same entries) list q f) (lowest-along s s' same entries l)) g
 
-  module _ (valueLimit rowLimit : ℕ) where
+  module _ (limits : Limits) where
     -- compiling gives tables of one type, or none
-    one-type : {a b : Answer} {t u : List ℕ} → Compiles bytes valueLimit rowLimit a t → Compiles other valueLimit rowLimit b u
+    one-type : {a b : Answer} {t u : List ℕ} → Compiles bytes limits a t → Compiles other limits b u
         → tableType a ≡ tableType b
-    one-type c d = same-type (spare-nodes read read' one same valueLimit rowLimit c d)
+    one-type c d = same-type (spare-nodes read read' one same limits c d)
 
     -- The two sheets get the same explanation of a list, for any limits.
-    pub explain-spare-nodes : {list : List ℕ} {x y : Explanation} {t u : List ℕ} → Explains bytes list valueLimit rowLimit x t
-        → Explains other list valueLimit rowLimit y u → SameExplanation (same .to) x t y u
+    pub explain-spare-nodes : {list : List ℕ} {x y : Explanation} {t u : List ℕ} → Explains bytes list limits x t
+        → Explains other list limits y u → SameExplanation (same .to) x t y u
     explain-spare-nodes (not-compiled number spot c) (not-compiled number' spot' d) =
-        refused-alike (refused-low bytes c .0) (spare-nodes read read' one same valueLimit rowLimit c d)
+        refused-alike (refused-low bytes c .0) (spare-nodes read read' one same limits c d)
     explain-spare-nodes (not-compiled number spot c) (watched k d) = absurd (let z = one-type c (compiled-gets d) in omega arith)
     explain-spare-nodes (not-compiled number spot c) (finds k d y u g) = absurd (let z = one-type c (compiled-gets d) in omega arith)
     explain-spare-nodes (watched k c) (not-compiled number spot d) = absurd (let z = one-type (compiled-gets c) d in omega arith)
@@ -115,7 +118,7 @@ module _ {bytes other : List ℕ} {sheet sheet' : Sheet} (read : ReadFrom bytes 
       → SameExplained (same .to) out lent x out' y lent'
   explain-call-spare-nodes areas areas' (short h) d = absurd (h areas)
   explain-call-spare-nodes areas areas' (makes l x t c) (short h) = absurd (h areas')
-  explain-call-spare-nodes {out = out} {lent = lent} areas areas' (makes l x t c) (makes l' y u d) = by (explain-spare-nodes 1024 64 c d)
+  explain-call-spare-nodes {out = out} {lent = lent} areas areas' (makes l x t c) (makes l' y u d) = by (explain-spare-nodes largest c d)
     where
       by : {x y : Explanation} {t u : List ℕ} → SameExplanation (same .to) x t y u
           → SameExplained (same .to) out lent x (t ++ drop (length t) out) y (u ++ drop (length u) lent)

@@ -6,24 +6,25 @@ use lib.ListN.{take}
 use Rattle.trace.specs.Trace.{Sequence}
 use Rattle.trace.specs.declared.Mode.{Mode}
 use Rattle.trace.specs.declared.Mode.the-variants.{Enforced}
+use Rattle.limits.specs.declared.Limits.{Limits}
 use Rattle.syntax.specs.declared.Sheet.{Sheet}
 use Rattle.explaining.specs.Denials.{NotAnAction, NoneDenied, FirstDenied, LowestViolated}
 use Rattle.explaining.specs.Explains.{Explanation, no-denial, denied, refused, CompiledSheet}
 
 -- The bytes compile to a sheet of this mode.
-pub record CompilesAs (bytes : List ℕ) (valueLimit rowLimit : ℕ) (mode : Mode) : Type 0 where
+pub record CompilesAs (bytes : List ℕ) (limits : Limits) (mode : Mode) : Type 0 where
   pub sheet : Sheet
-  pub compiled : CompiledSheet bytes valueLimit rowLimit mode sheet
+  pub compiled : CompiledSheet bytes limits mode sheet
 
 -- They compile to an enforced sheet, and a number of the list is no action of it.
-pub record SomeNoAction (bytes list : List ℕ) (valueLimit rowLimit : ℕ) : Type 0 where
+pub record SomeNoAction (bytes list : List ℕ) (limits : Limits) : Type 0 where
   pub sheet : Sheet
-  pub compiled : CompiledSheet bytes valueLimit rowLimit Enforced sheet
+  pub compiled : CompiledSheet bytes limits Enforced sheet
   pub outside : NotAnAction (sheet .actions) list
 
 -- They compile to an enforced sheet, and every number of the list is an action of it.
-pub record Explainable (bytes list : List ℕ) (valueLimit rowLimit : ℕ) (sheet : Sheet) : Type 0 where
-  pub compiled : CompiledSheet bytes valueLimit rowLimit Enforced sheet
+pub record Explainable (bytes list : List ℕ) (limits : Limits) (sheet : Sheet) : Type 0 where
+  pub compiled : CompiledSheet bytes limits Enforced sheet
   pub actions : Sequence (sheet .actions) list
 
 -- The first denied action, and the node that is named for it.
@@ -37,15 +38,15 @@ pub data Outcome (sheet : Sheet) (list : List ℕ) : Explanation → Type 0 wher
   denies : (place node : ℕ) → DeniedBy sheet list place node → Outcome sheet list (denied place node)
 
 -- No action of the list is denied.
-pub record PermitsAll (bytes list : List ℕ) (valueLimit rowLimit : ℕ) : Type 0 where
+pub record PermitsAll (bytes list : List ℕ) (limits : Limits) : Type 0 where
   pub sheet : Sheet
-  pub explainable : Explainable bytes list valueLimit rowLimit sheet
+  pub explainable : Explainable bytes list limits sheet
   pub none : NoneDenied sheet list
 
 -- The first denied one, and the node.
-pub record Denies (bytes list : List ℕ) (valueLimit rowLimit place node : ℕ) : Type 0 where
+pub record Denies (bytes list : List ℕ) (limits : Limits) (place node : ℕ) : Type 0 where
   pub sheet : Sheet
-  pub explainable : Explainable bytes list valueLimit rowLimit sheet
+  pub explainable : Explainable bytes list limits sheet
   pub by : DeniedBy sheet list place node
 
 -- What is written for an answer: the place of a denial.

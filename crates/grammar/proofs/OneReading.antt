@@ -9,7 +9,7 @@ use Rattle.policy.specs.Formula.{Formula as ActionFormula, always-true, always-
 use Rattle.policy.specs.Policy.{Policy, now, holds-first, count, not-p, and-p, or-p, eventually, always, before-, before+, after-, after+, fulfilling, ignoring}
 use Rattle.grammar.specs.Words.{Word}
 use Rattle.grammar.specs.Spelling.{tokenOf, whether}
-use Rattle.grammar.specs.Grammar.{Rule, Reading, Reads, watch, enforce, now-w, count-w, not-w, and-w, or-w, eventually-w, before-w, after-w, ignoring-w, holds-e, not-e, and-e, or-e, always-e, before-e, after-e, fulfilling-e, ignoring-e, true-a, false-a, proposition-a, not-a, and-a, or-a, number}
+use Rattle.grammar.specs.Grammar.{TextRule, Reading, Reads, watch, enforce, now-w, count-w, not-w, and-w, or-w, eventually-w, before-w, after-w, ignoring-w, holds-e, not-e, and-e, or-e, always-e, before-e, after-e, fulfilling-e, ignoring-e, true-a, false-a, proposition-a, not-a, and-a, or-a, number}
 use Rattle.grammar.specs.declared.Token.{Token}
 use Rattle.grammar.specs.declared.Token.the-variants.{Watch, Enforce, Now, Holds, Count, Not, And, Or, Eventually, Always, Before, After, Fulfilling, Ignoring, True, False, Proposition, Number as NumberToken, Other}
 use Rattle.grammar.specs.declared.Category.{Category}
@@ -18,7 +18,7 @@ use Rattle.grammar.proofs.Tokens.{number-token, proposition-token}
 
 -- What words of any category are read as; a policy with its category.
 data Value : Type 0 where
-  a-rule : Rule → Value
+  a-rule : TextRule → Value
   a-policy : Mode → Policy → Value
   a-formula : ActionFormula → Value
   a-number : ℕ → Value

@@ -11,7 +11,7 @@ use lib.ListN.{length, getD}
 use borrow.Author.Tests.{le-leb, ltb-true}
 use Rattle.base.proofs.Truths.{not-true, and-true, both-true, either-true}
 use Rattle.grammar.specs.Words.{Word}
-use Rattle.grammar.specs.Spelling.{isDigit, isPlain, digits}
+use Rattle.grammar.specs.Spelling.{isDigit, isPlain, numberWord}
 use Rattle.grammar.specs.Productions.{Fits, watch, enforce, now-w, count-w, not-w, and-w, or-w, eventually-w, before-w, after-w, ignoring-w, holds-e, not-e, and-e, or-e, always-e, before-e, after-e, fulfilling-e, ignoring-e, true-a, false-a, proposition-a, not-a, and-a, or-a, number, Misfit}
 use Rattle.grammar.specs.declared.Category.{Category}
 
@@ -29,7 +29,7 @@ digit-plain : (d : ℕ) → d ≤ 9 → isPlain (48 + d) ≡ true
 digit-plain d h =
     either-true (isDigit (48 + d)) (leb 97 (48 + d) && leb (48 + d) 122) (inl (both-true (le-leb 48 (48 + d) (omega arith)) (le-leb (48 + d) 57 (omega arith))))
 
-digits-plain : (n : ℕ) → n ≤ 60 → allPlain (digits n) ≡ true
+digits-plain : (n : ℕ) → n ≤ 60 → allPlain (numberWord n) ≡ true
 digits-plain n h = by (ltb n 10) refl
   where
     by : (b : Bool) → ltb n 10 ≡ b → allPlain (cond b ((48 + n) ∷ []) ((48 + n / 10) ∷ (48 + n % 10) ∷ [])) ≡ true

@@ -9,7 +9,7 @@ use lib.Dec.{T, eqb, leb, leb→le}
 use lib.ListN.{getD, drop}
 use borrow.Author.Tests.{eqb-true, leb-true, le-leb, ne-eqb}
 use Rattle.grammar.specs.Words.{Word}
-use Rattle.grammar.specs.Spelling.{word, digits, numberWord, propositionWord, same, valueOf, isNumber, isProposition, whether, Keyword, keywords, tokenIn, tokenOf}
+use Rattle.grammar.specs.Spelling.{word, numberWord, propositionWord, same, valueOf, isNumber, isProposition, whether, Keyword, keywords, tokenIn, tokenOf}
 use Rattle.grammar.specs.declared.Token.{Token}
 use Rattle.grammar.specs.declared.Token.the-variants.{Watch, Enforce, Now, Holds, Count, Not, And, Or, Eventually, Always, Before, After, Fulfilling, Ignoring, True, False, Proposition, Number, Other}
 use Rattle.base.proofs.Truths.{not-true, and-true}
@@ -98,9 +98,9 @@ number-found (a ∷ v) h e =
     no b t = let l = leb→le 97 b t in ne-eqb a b (λ z. omega arith)
 
 pub number-token : (k : ℕ) → 1 ≤ k → k ≤ 60 → tokenOf (numberWord k) ≡ Number k
-number-token k l h = number-found (digits k) (first-digit k (omega arith)) (rw (e, le-leb 1 k, le-leb k 60)) ∙ ap Number e
+number-token k l h = number-found (numberWord k) (first-digit k (omega arith)) (rw (e, le-leb 1 k, le-leb k 60)) ∙ ap Number e
   where
-    e : valueOf (digits k) ≡ k
+    e : valueOf (numberWord k) ≡ k
     e = digits-value k (omega arith)
 
 pub proposition-token : (p : ℕ) → p ≤ 15 → tokenOf (propositionWord p) ≡ Proposition p

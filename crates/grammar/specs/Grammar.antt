@@ -13,13 +13,13 @@ use Rattle.grammar.specs.declared.Category.{Category}
 use Rattle.grammar.specs.declared.Category.the-variants.{Text, Watched, Enforced, Formula, Number, End}
 
 -- A rule: a policy, and whether it is watched or enforced.
-pub record Rule : Type 0 where
+pub record TextRule : Type 0 where
   pub mode : Mode
   pub policy : Policy
 
 -- What words of each category are read as.
 abbrev pub Reading : Category → Type 0
-Reading Text = Rule
+Reading Text = TextRule
 Reading Watched = Policy
 Reading Enforced = Policy
 Reading Formula = ActionFormula

@@ -4,14 +4,14 @@ use mathlib.Core.List.{List, [], _∷_, _++_}
 use Prim.Native.Nat.{ℕ, _≤_}
 use lib.ListN.{length, take}
 use Rattle.grammar.specs.Words.{Word}
-use Rattle.grammar.specs.Grammar.{Rule, Reads}
+use Rattle.grammar.specs.Grammar.{TextRule, Reads}
 use Rattle.grammar.specs.Productions.{Fits, Misfit}
 use Rattle.grammar.specs.declared.Category.{Category}
 use Rattle.grammar.specs.declared.Category.the-variants.{Text}
 
 -- The words are in the language: they have a reading.
 pub record InLanguage (ws : List Word) : Type 0 where
-  pub rule : Rule
+  pub rule : TextRule
   pub reads : Reads Text ws rule
 
 -- Some continuation completes the words.

@@ -4,4 +4,3 @@ pub mod Grammar
 pub mod Productions
 pub mod Nodes
 pub mod Language
-pub mod Sheets

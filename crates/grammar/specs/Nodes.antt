@@ -7,7 +7,7 @@ use Rattle.policy.specs.Formula.{Formula as ActionFormula, always-true, always-
 use Rattle.policy.specs.Policy.{Policy, now, holds-first, count, not-p, and-p, or-p, eventually, always, before-, before+, after-, after+, fulfilling, ignoring}
 use Rattle.syntax.specs.declared.Node.{Node}
 use Rattle.syntax.specs.declared.Node.the-variants.{True, False, Proposition, Negation, Conjunction, Disjunction, Now, Holds, Count, Not, And, Or, Eventually, Always, BeforeMinus, BeforePlus, AfterMinus, AfterPlus, Fulfilling, Ignoring}
-use Rattle.grammar.specs.Grammar.{Rule, Reading}
+use Rattle.grammar.specs.Grammar.{TextRule, Reading}
 use Rattle.grammar.specs.declared.Category.{Category}
 use Rattle.grammar.specs.declared.Category.the-variants.{Text, Watched, Enforced, Formula, Number, End}
 

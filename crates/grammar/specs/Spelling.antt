@@ -18,16 +18,12 @@ abbrev pub word : String → Word
 word no-letter = []
 word (letter before rest) = code letter ∷ word rest
 
--- a number below 100 in decimal, without leading zero
-abbrev pub digits : ℕ → Word
-digits n = cond (ltb n 10) ((48 + n) ∷ []) ((48 + n / 10) ∷ (48 + n % 10) ∷ [])
-
--- The words of the numbers, and of the propositions: p and the number.
+-- The word of a number below 100: decimal, without leading zero. That of a proposition: p and its number.
 abbrev pub numberWord : ℕ → Word
-numberWord k = digits k
+numberWord n = cond (ltb n 10) ((48 + n) ∷ []) ((48 + n / 10) ∷ (48 + n % 10) ∷ [])
 
 abbrev pub propositionWord : ℕ → Word
-propositionWord p = 112 ∷ digits p
+propositionWord p = 112 ∷ numberWord p
 
 -- two words are the same
 abbrev pub same : Word → Word → Bool

@@ -10,7 +10,7 @@ use Rattle.base.proofs.Truths.{or-false}
 use Rattle.automaton.proofs.MinimalRows.{leads}
 use Rattle.policy.specs.Closed.{Below, answer}
 use Rattle.policy.specs.Value.{Part}
-use Rattle.rules.specs.Codes.{placeCode}
+use Rattle.rules.specs.Codes.{moveByte}
 use Rattle.rules.specs.Rules.{partAt}
 use Rattle.table.specs.Table.{actionsOf, rowsOf, rowStep}
 use Rattle.table.proofs.Formed.{machine}
@@ -111,7 +111,7 @@ read-places (a ∷ w) rs = read-places w (allMoved a rs) ∙ one rs
 -- a tuple of rows as one number, the first row lowest
 abbrev pub tupleCode : List (Move ℕ) → ℕ
 tupleCode [] = 0
-tupleCode (m ∷ ms) = placeCode m + 256 * tupleCode ms
+tupleCode (m ∷ ms) = moveByte m + 256 * tupleCode ms
 
 abbrev someTripped : List (Move ℕ) → Bool
 someTripped [] = false
@@ -121,7 +121,7 @@ together-code : (rs : List Runner) → together rs ≡ answer (someTripped (plac
 together-code [] = refl
 together-code (r ∷ rs) = by (r .at) (together rs) (someTripped (places rs)) (tupleCode (places rs)) (together-code rs)
   where
-    by : (m others : Move ℕ) (b : Bool) (c : ℕ) → others ≡ answer b c → joinMoves m others ≡ answer (tripped m || b) (placeCode m + 256 * c)
+    by : (m others : Move ℕ) (b : Bool) (c : ℕ) → others ≡ answer b c → joinMoves m others ≡ answer (tripped m || b) (moveByte m + 256 * c)
     by trip others b c e = refl
     by (go row) others true c e = ap (joinMoves (go row)) e
     by (go row) others false c e = ap (joinMoves (go row)) e
@@ -214,8 +214,8 @@ module _ (actions : ℕ) where
       digits : (to-u .0 ≡ to-w .0) × (tupleCode (rowsAfter tables u) ≡ tupleCode (rowsAfter tables w))
       digits =
           let h = o .0 .fit .accepted .formed .header .rows-high in
-          let p : placeCode (run (rowStep table) (go 0) u) ≡ to-u .0 = ap placeCode (to-u .2) in
-          let q : placeCode (run (rowStep table) (go 0) w) ≡ to-w .0 = ap placeCode (to-w .2) in
+          let p : moveByte (run (rowStep table) (go 0) u) ≡ to-u .0 = ap moveByte (to-u .2) in
+          let q : moveByte (run (rowStep table) (go 0) w) ≡ to-w .0 = ap moveByte (to-w .2) in
           let l = to-u .1 in
           let m = to-w .1 in
           (omega arith, omega arith)

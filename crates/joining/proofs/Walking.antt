@@ -10,6 +10,7 @@ use lib.ListN.{length, drop, length-take, length-drop, drop-of-length-le}
 use lib.Seq.{drop-drop}
 use Rattle.trace.specs.declared.Mode.{Mode}
 use Rattle.trace.specs.declared.Mode.the-variants.{Enforced, Watched}
+use Rattle.limits.specs.declared.Limits.{Limits}
 use Rattle.table.specs.Table.{typeOf, actionsOf, rowsOf, tableLength, frontTable, Accepted}
 use Rattle.table.specs.Answer.{Answer, accepted, refused, modeNumber, Loads, accepts}
 use Rattle.table.proofs.Formed.{front-actions, front-rows}
@@ -97,10 +98,10 @@ module _ {i : ℕ} {input : List ℕ} {at : ℕ} (w : AllFit i input at) where
   refused-here count h answer r = record { at = i; below = h; earlier = w .fit; refuses = subst (λ (t : List ℕ). RefusedBy t answer) next-table r }
 
 -- what is answered then
-pub refused-first : {count : ℕ} {input : List ℕ} {valueLimit rowLimit : ℕ} {answer : Joined} → CountFits count → FirstRefused count input answer
-    → Joins count input valueLimit rowLimit (answerOf answer) []
-refused-first {count} {input} {valueLimit} {rowLimit} counts r =
-    subst (λ (a : Answer). Joins count input valueLimit rowLimit a []) (sym (r .refuses .says))
+pub refused-first : {count : ℕ} {input : List ℕ} {limits : Limits} {answer : Joined} → CountFits count → FirstRefused count input answer
+    → Joins count input limits (answerOf answer) []
+refused-first {count} {input} {limits} counts r =
+    subst (λ (a : Answer). Joins count input limits a []) (sym (r .refuses .says))
     (unfit counts (r .at) (r .refuses .number) (r .below) (r .earlier) (r .refuses .unfit))
 
 -- all tables are fit: whether bytes are left over

@@ -2,6 +2,7 @@
 -- Assumes nothing.
 use mathlib.Core.List.{List}
 use Prim.Native.Nat.{ℕ}
+use Rattle.limits.specs.Limits.{largest}
 use Rattle.table.specs.Answer.{Answer, accepted, refused}
 use Rattle.making.specs.Making.{MakesInto}
 use Rattle.joining.specs.Joins.{Joins}
@@ -22,4 +23,4 @@ answerOf TooManyRows = refused 9 0
 
 -- The public call: the answer, and every byte of the lent areas.
 abbrev pub JoinsInto : (count : ℕ) (input out work values : List ℕ) → Answer → List ℕ → List ℕ → List ℕ → Type 0
-JoinsInto count input out work values = MakesInto (Joins count input 1024 64) out work values
+JoinsInto count input out work values = MakesInto (Joins count input largest) out work values

@@ -1,16 +1,12 @@
--- What reading the tables finds, what stands then in the slots of the work area, and the table of a machine on numbers.
+-- What reading the tables finds, and what stands then in the slots of the work area.
 -- Assumes nothing.
 use mathlib.Core.Path.{_≡_}
-use mathlib.Core.List.{List, []}
+use mathlib.Core.List.{List}
 use Prim.Native.Nat.{ℕ, _≤_, _<_}
 use lib.ListN.{length, getD, drop}
-use Rattle.trace.specs.Trace.{Step}
 use Rattle.table.specs.Table.{tableLength, frontTable, entriesOf}
-use Rattle.table.specs.Answer.{Answer, accepted, refused}
-use Rattle.making.specs.Making.{tableBytes}
+use Rattle.table.specs.Answer.{refused}
 use Rattle.rules.specs.Rules.{slotAt}
-use Rattle.explore.specs.Explored.{OverReached}
-use Rattle.machine_rows.specs.Machines.{OverStates, RowsFor}
 use Rattle.joining.specs.Tables.{restAt, tableAt, Fit, Unfit, FitBefore, AllOver}
 use Rattle.joining.specs.Calling.{answerOf}
 use Rattle.joining.specs.declared.Joined.{Joined}
@@ -64,10 +60,3 @@ LaidOut count input Mixed work = (actions : ℕ) → AllOver actions count input
 pub record Acting (actions : ℕ) : Type 0 where
   pub low : 1 ≤ actions
   pub high : actions ≤ 16
-
--- What a machine on numbers gives: 8, 9, or the enforced table of its rows.
-pub data MachineMakes (actions : ℕ) (step : Step ℕ) (start valueLimit rowLimit : ℕ) : Answer → List ℕ → Type 0 where
-  many-values : OverReached actions step start valueLimit → MachineMakes actions step start valueLimit rowLimit (refused 8 0) []
-  many-states : (OverReached actions step start valueLimit → ⊥) → OverStates actions step start rowLimit → MachineMakes actions step start valueLimit rowLimit (refused 9 0) []
-  makes-rows : (OverReached actions step start valueLimit → ⊥) → (rows : ℕ) (entries : List ℕ) → RowsFor actions step start rowLimit rows entries
-      → MachineMakes actions step start valueLimit rowLimit (accepted 1 actions rows) (tableBytes 1 actions rows entries)

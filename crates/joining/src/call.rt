@@ -4,51 +4,54 @@ use crate::reading::Agreement;
 use crate::reading::Checked;
 use crate::reading::check_tables;
 use crate::reading::lay_out;
+use limits::LARGEST;
+use limits::Limits;
+use limits::NUMBERS_LENGTH;
+use limits::WORK_LENGTH;
 use machine_rows::MachineBuilt;
 use machine_rows::Plan;
+use machine_tables::make_table;
 use making::long_enough;
-use making::write_table;
 use steppers::Stepper;
+use table::LARGEST_TABLE;
 use trace::Mode;
 ghost use mathlib.Core.Path.{_≡_};
 ghost use Prim.Native.Nat.{_≤_};
 ghost use lib.ListN.{length};
+ghost use Rattle.limits.specs.Lengths.{workLength, numbersLength};
+ghost use Rattle.limits.specs.Limits.{largest};
+ghost use Rattle.table.specs.Table.{largestTable};
 ghost use Rattle.making.specs.Making.{Lent, Zeroed, WritesTo};
 ghost use Rattle.steppers.specs.Tuples.{tupleStep, partsFrom, TablesReadable};
-ghost use Rattle.joining.specs.Reading.{Acting, MachineMakes};
+ghost use Rattle.machine_tables.specs.Makes.{MachineMakes};
+ghost use Rattle.joining.specs.Reading.{Acting};
 ghost use Rattle.joining.specs.Joins.{Joins};
 ghost use Rattle.joining.specs.Calling.{answerOf, JoinsInto};
 
-// Builds the rows of the tables in the first slots, read together, in the slot behind those of eight tables, and writes their table.
+// Makes the table of the tables in the first slots, read together. Its rows are built in the slot behind those of eight tables.
 fn build_joined(
     count: usize,
     actions: usize,
     out: &mut [u8],
     work: &mut [u8],
     values: &mut [u64],
-    value_limit: usize,
-    row_limit: usize,
+    limits: Limits,
 ) -> Joined
     requires { ⌜ TablesReadable (now work) count × Acting actions ⌝ }
-    requires { ⌜ Lent «value_limit» «row_limit» (now out) (now work) (now values) ⌝ }
-    ensures { λ r. ⌜ WritesTo (MachineMakes actions (tupleStep (partsFrom actions (now (work .entry)) 0 count)) 0 «value_limit» «row_limit») (answerOf r) (now (out .entry)) (now (out .exit)) ⌝ }
+    requires { ⌜ Lent limits (now out) (now work) (now values) ⌝ }
+    ensures { λ r. ⌜ WritesTo (MachineMakes 1 actions (tupleStep (partsFrom actions (now (work .entry)) 0 count)) 0 limits) (answerOf r) (now (out .entry)) (now (out .exit)) ⌝ }
 {
     let tables = count as u8;
     let plan = Plan {
         stepper: Stepper::OfTables(tables),
         slot: 8,
         actions,
-        values: value_limit,
-        rows: row_limit,
+        limits,
     };
-    match machine_rows::build_large(plan, work, values) {
+    match make_table(Mode::Enforced, plan, out, work, values) {
         MachineBuilt::TooManyValues => Joined::TooManyValues,
         MachineBuilt::TooManyRows => Joined::TooManyRows,
-        MachineBuilt::Rows(rows) => {
-            let to = 8192 + rows * actions;
-            write_table(Mode::Enforced, actions, rows, &work[8192..to], out);
-            Joined::Table { actions, rows }
-        }
+        MachineBuilt::Rows(rows) => Joined::Table { actions, rows },
     }
 }
 
@@ -59,11 +62,10 @@ fn join_with(
     out: &mut [u8],
     work: &mut [u8],
     values: &mut [u64],
-    value_limit: usize,
-    row_limit: usize,
+    limits: Limits,
 ) -> Joined
-    requires { ⌜ Lent «value_limit» «row_limit» (now out) (now work) (now values) ⌝ }
-    ensures { λ r. ⌜ WritesTo (Joins count (now (tables .entry)) «value_limit» «row_limit») (answerOf r) (now (out .entry)) (now (out .exit)) ⌝ }
+    requires { ⌜ Lent limits (now out) (now work) (now values) ⌝ }
+    ensures { λ r. ⌜ WritesTo (Joins count (now (tables .entry)) limits) (answerOf r) (now (out .entry)) (now (out .exit)) ⌝ }
 {
     if count < 2 {
         return Joined::WrongCount;
@@ -80,7 +82,7 @@ fn join_with(
             match lay_out(count, tables, work) {
                 Agreement::Mixed => Joined::OtherActions,
                 Agreement::One(actions) => {
-                    build_joined(count, actions, out, work, values, value_limit, row_limit)
+                    build_joined(count, actions, out, work, values, limits)
                 }
             }
         }
@@ -95,14 +97,14 @@ fn join_in(
     work: &mut [u8],
     values: &mut [u64],
 ) -> Joined
-    requires { ⌜ 1032 ≤ length (now out) ⌝ }
-    requires { ⌜ length (now work) ≡ 65536 ⌝ }
-    requires { ⌜ length (now values) ≡ 1024 ⌝ }
-    ensures { λ r. ⌜ WritesTo (Joins count (now (tables .entry)) 1024 64) (answerOf r) (now (out .entry)) (now (out .exit)) ⌝ }
+    requires { ⌜ largestTable ≤ length (now out) ⌝ }
+    requires { ⌜ length (now work) ≡ workLength ⌝ }
+    requires { ⌜ length (now values) ≡ numbersLength ⌝ }
+    ensures { λ r. ⌜ WritesTo (Joins count (now (tables .entry)) largest) (answerOf r) (now (out .entry)) (now (out .exit)) ⌝ }
     ensures { λ _. ⌜ Zeroed (now (work .entry)) (now (work .exit)) ⌝ }
     ensures { λ _. ⌜ Zeroed (now (values .entry)) (now (values .exit)) ⌝ }
 {
-    let joined = join_with(count, tables, out, work, values, 1024, 64);
+    let joined = join_with(count, tables, out, work, values, LARGEST);
     base::fill(work, 0);
     base::clear_numbers(values);
     joined
@@ -119,8 +121,14 @@ pub fn join(
 ) -> Joined
     ensures { λ r. ⌜ JoinsInto count (now (tables .entry)) (now (out .entry)) (now (work .entry)) (now (values .entry)) (answerOf r) (now (out .exit)) (now (work .exit)) (now (values .exit)) ⌝ }
 {
-    if long_enough(1032, out.len(), work.len(), values.len()) {
-        return join_in(count, tables, out, &mut work[..65536], &mut values[..1024]);
+    if long_enough(LARGEST_TABLE, out.len(), work.len(), values.len()) {
+        return join_in(
+            count,
+            tables,
+            out,
+            &mut work[..WORK_LENGTH],
+            &mut values[..NUMBERS_LENGTH],
+        );
     }
     Joined::ShortArea
 }

@@ -1,12 +1,14 @@
 // Tables one behind the other: whether each can be joined, whether they have one number of actions, and their rows in the slots of the work area.
 use crate::Joined;
 use base::word;
+use limits::SLOT_LENGTH;
 use table::Header;
 use table::is_watched;
 ghost use mathlib.Core.Path.{_≡_};
 ghost use mathlib.Core.List.{_++_};
 ghost use Prim.Native.Nat.{_-_, _≤_, _<_};
 ghost use lib.ListN.{length, replicate};
+ghost use Rattle.limits.specs.Lengths.{workLength};
 ghost use Rattle.joining.specs.Tables.{FitBefore};
 ghost use Rattle.joining.specs.Reading.{FrontChecked, AllChecked, LaidOut};
 
@@ -30,12 +32,12 @@ fn check_table(bytes: &[u8]) -> Checked
         mode,
         actions,
         rows,
-    } = table::check_front(bytes)
+    } = well_formed::check_front(bytes)
     else {
         return Checked::Unfit(Joined::Malformed);
     };
     let end = 8 + rows * actions;
-    let canonical = table::canonical(&bytes[8..end], rows, actions);
+    let canonical = loader::canonical(&bytes[8..end], rows, actions);
     let watched = is_watched(mode);
     if !canonical {
         return Checked::Unfit(Joined::NotCanonical);
@@ -77,7 +79,7 @@ fn lay(entries: &[u8], slot: &mut [u8])
 
 // Lays the rows of each table into the slot of its number, while all have the number of actions of the first.
 pub fn lay_out(count: usize, tables: &[u8], work: &mut [u8]) -> Agreement
-    requires { ⌜ FitBefore (now tables) count × (0 < count) × (count ≤ 8) × (65536 ≤ length (now work)) ⌝ }
+    requires { ⌜ FitBefore (now tables) count × (0 < count) × (count ≤ 8) × (workLength ≤ length (now work)) ⌝ }
     ensures { λ r. ⌜ LaidOut count (now (tables .entry)) r (now (work .exit)) ⌝ }
 {
     let actions = word(tables, 2);
@@ -89,8 +91,8 @@ pub fn lay_out(count: usize, tables: &[u8], work: &mut [u8]) -> Agreement
             return Agreement::Mixed;
         }
         let end = 8 + word(rest, 4) * actions;
-        let from = i * 1024;
-        let to = from + 1024;
+        let from = i * SLOT_LENGTH;
+        let to = from + SLOT_LENGTH;
         lay(&rest[8..end], &mut work[from..to]);
         at += end;
         i += 1;

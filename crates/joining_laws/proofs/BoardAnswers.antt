@@ -15,14 +15,14 @@ use Rattle.view.specs.Moves.{fulfils, fulfilsAt}
 use Rattle.base.specs.Sets.{setBelow}
 use Rattle.base.proofs.Sets.{no-members}
 use Rattle.runs.specs.Runs.{StepOn, Run, CaseAfter, at-enforced, at-watched, at-fulfilled, PlaceIs}
-use Rattle.runs.specs.Events.{Event, Standing, nothing, rule, onPlace}
-use Rattle.runs.specs.Verdicts.{Listed, Violated, NoneViolated, Judges, permits, denies-lowest}
+use Rattle.runs.specs.Events.{Event, PlaceState, nothing, rule, onPlace}
+use Rattle.runs.specs.Verdicts.{ActionListed, Violated, NoneViolated, Judges, permits, denies-lowest}
 use Rattle.places.specs.declared.Case.{Case}
 use Rattle.runs.proofs.Places.{keeps, rule-taken}
 use Rattle.runs.proofs.State.{run-state}
 use Rattle.runs.proofs.Actions.{in-list-listed, listed-in-list, carried-judges}
 use Rattle.joining.specs.Meaning.{someTrips}
-use Rattle.joining_laws.specs.Sets.{Member}
+use Rattle.joining_laws.specs.Sets.{AmongTables}
 use Rattle.runs.specs.Holding.{Holds}
 use Rattle.joining_laws.specs.Boards.{AllEnforced}
 use Rattle.joining_laws.proofs.SomeTrips.{some-trips-member, member-trips}
@@ -41,12 +41,12 @@ module _ (action : ℕ) where
   rule-unfulfilled stored (at-watched row t e) o = absurd (let z : _≡_ {A = ℕ} 1 2 = sym o ∙ t in omega arith)
   rule-unfulfilled stored (at-fulfilled t e) o = refl
 
-  place-unfulfilled : (stored : List ℕ) (x : Standing) (case : Case) → PlaceIs stored x case → ((table since : List ℕ) → x ≡ rule table since → typeOf table ≡ 1)
+  place-unfulfilled : (stored : List ℕ) (x : PlaceState) (case : Case) → PlaceIs stored x case → ((table since : List ℕ) → x ≡ rule table since → typeOf table ≡ 1)
       → fulfils stored action case ≡ false
   place-unfulfilled stored nothing case p o = ap (fulfils stored action) p
   place-unfulfilled stored (rule table since) case p o = rule-unfulfilled stored (p .after) (o table since refl)
 
-first-of : (tables : List (List ℕ)) → (tables ≡ [] → ⊥) → (table : List ℕ) × Member table tables
+first-of : (tables : List (List ℕ)) → (tables ≡ [] → ⊥) → (table : List ℕ) × AmongTables table tables
 first-of [] n = absurd (n refl)
 first-of (table ∷ tables) n = (table, List·Memᴰ·head refl)
 
@@ -101,7 +101,7 @@ module _ {events : List Event} {view : View} (r : Run events view) {tables : Lis
   pub told : {places : ℕ} {reply : Reply} {change : Change} → StepOn places view (act action) reply change → Told actions tables since action reply
   told {places} p = by (p .step)
     where
-      listed-if : action < actions → Listed events action
+      listed-if : action < actions → ActionListed events action
       listed-if h =
           let (table, i, e) = some-rule in
           record { place = i; table = table; since = since; on = e; below = subst (λ (n : ℕ). action < n) (sym (over-actions i table since e)) h }

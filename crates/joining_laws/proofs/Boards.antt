@@ -11,14 +11,14 @@ use Rattle.table.specs.Table.{typeOf, actionsOf}
 use Rattle.view.specs.View.{View, Change}
 use Rattle.view.specs.Steps.{act, Reply, permitted, input, changes}
 use Rattle.runs.specs.Runs.{StepOn, Run}
-use Rattle.runs.specs.Events.{Event, event, Standing}
+use Rattle.runs.specs.Events.{Event, event, PlaceState}
 use Rattle.runs.specs.Holding.{HoldsOn, Holds, ActsOnly, none, more}
-use Rattle.histories.specs.History.{History}
+use Rattle.board_laws.specs.History.{History}
 use Rattle.runs.specs.Verdicts.{IsPermitted}
 use Rattle.places.specs.declared.Board.{Board}
 use Rattle.runs.proofs.Reports.{before}
 use Rattle.runs.proofs.Holding.{sinceAfter, holds-after}
-use Rattle.histories.proofs.HistoryRun.{history-run}
+use Rattle.board_laws.proofs.HistoryRun.{history-run}
 use Rattle.joining.specs.Meaning.{someTrips}
 use Rattle.joining_laws.specs.Boards.{AllEnforced, StandsFor, AlikeReplies, same, both-denied, none as none-asked, more as one-more, Follow}
 use Rattle.joining_laws.specs.Sets.{SameTables}
@@ -26,7 +26,7 @@ use Rattle.joining_laws.proofs.SomeTrips.{or-none}
 use Rattle.joining_laws.proofs.BoardAnswers.{Told, unlisted, refuses, allows, since-listed, told}
 
 -- Holding tables depends on them as a set.
-pub holds-same : {on : ℕ → Standing} {tables others : List (List ℕ)} {since : List ℕ} → SameTables tables others → HoldsOn on tables since → HoldsOn on others since
+pub holds-same : {on : ℕ → PlaceState} {tables others : List (List ℕ)} {since : List ℕ} → SameTables tables others → HoldsOn on tables since → HoldsOn on others since
 holds-same s h =
     record { rules = λ i table now e. let (m, q) = h .rules i table now e in (s .in-other table m, q); each = λ table m. h .each table (s .in-one table m) }
 

@@ -7,11 +7,11 @@ use mathlib.Core.Logic.{_↔_}
 use Prim.Native.Nat.{ℕ}
 use borrow.Author.Tests.{not-true, not-false}
 use Rattle.trace.specs.Trace.{trips}
-use Rattle.table.specs.Table.{typeOf, rowStep, judged, verdict}
+use Rattle.table.specs.Table.{typeOf, rowStep, verdictBy, verdict}
 
 -- Type 1 is satisfied where the sequence has not tripped.
-pub enforced-verdict : (type : ℕ) (tripped : Bool) → type ≡ 1 → judged type tripped ≡ not tripped
-enforced-verdict type tripped e = ap (λ (n : ℕ). judged n tripped) e
+pub enforced-verdict : (type : ℕ) (tripped : Bool) → type ≡ 1 → verdictBy type tripped ≡ not tripped
+enforced-verdict type tripped e = ap (λ (n : ℕ). verdictBy n tripped) e
 
 module _ (table w : List ℕ) (enforced : typeOf table ≡ 1) where
   is-not : verdict table w ≡ not (trips (rowStep table) 0 w)

@@ -8,6 +8,7 @@ use Prim.Native.Nat.{ℕ, zero, suc, _≤_, _<_}
 use native.Mathlib.Omega.{arith}
 use Rattle.trace.specs.Trace.{Sequence, trips}
 use Rattle.trace.proofs.Laws.{not-both}
+use Rattle.limits.specs.declared.Limits.{Limits}
 use Rattle.table.specs.Table.{actionsOf, rowStep, Accepted, verdict}
 use Rattle.table.specs.Answer.{accepted}
 use Rattle.table.proofs.Verdicts.{equal-exactly-when-same-verdicts}
@@ -15,7 +16,7 @@ use Rattle.joining.specs.Tables.{tableAt, tablesIn, listed, Fit}
 use Rattle.joining.specs.Meaning.{someTrips}
 use Rattle.joining.specs.Joins.{Joins}
 use Rattle.joining_laws.specs.Conjunction.{JoinedTable}
-use Rattle.joining_laws.specs.Sets.{Member, SameTables}
+use Rattle.joining_laws.specs.Sets.{AmongTables, SameTables}
 use Rattle.joining_laws.specs.Boards.{StandsFor}
 use Rattle.joining_laws.specs.Groups.{Forest, none, leaf, node, Tree}
 use Rattle.joining_laws.proofs.SomeTrips.{same-truth, or-none, some-append, some-trips-member, member-trips, Tripping}
@@ -25,8 +26,8 @@ use Rattle.joining_laws.proofs.JoinedBoard.{stands-for}
 
 -- every table of a list is fit and has so many actions
 record Over (tables : List (List ℕ)) (actions : ℕ) : Type 0 where
-  fit : (table : List ℕ) → Member table tables → Fit table
-  acting : (table : List ℕ) → Member table tables → actionsOf table ≡ actions
+  fit : (table : List ℕ) → AmongTables table tables → Fit table
+  acting : (table : List ℕ) → AmongTables table tables → actionsOf table ≡ actions
 
 over-none : {actions : ℕ} → Over [] actions
 over-none = record { fit = λ t m. absurd (List·Memᴰ·not-nil m); acting = λ t m. absurd (List·Memᴰ·not-nil m) }
@@ -76,10 +77,10 @@ module _ {n : ℕ} {leaves tables : List (List ℕ)} (rest : Stand leaves tables
         reads = λ w s. ap₂ (λ (a b : Bool). a || b) (t .reads w s ∙ under .reads w s) (rest .reads w s) ∙ sym (some-append w below leaves);
       }
 
-stand : {leaves tables : List (List ℕ)} → Forest leaves tables → (n : ℕ) → ((table : List ℕ) → Member table tables → actionsOf table ≡ n) → Stand leaves tables n
+stand : {leaves tables : List (List ℕ)} → Forest leaves tables → (n : ℕ) → ((table : List ℕ) → AmongTables table tables → actionsOf table ≡ n) → Stand leaves tables n
 stand none n acts = record { above = over-none; below = over-none; some = λ e. e; reads = λ w s. refl }
 stand (leaf table f rest) n acts = with-leaf (stand rest n (λ t m. acts t (List·Memᴰ·tail m))) f (acts table (List·Memᴰ·head refl))
-stand (node {below} {leaves} {tables} count input valueLimit rowLimit type actions rows written small j under rest) n acts =
+stand (node {below} {leaves} {tables} count input limits type actions rows written small j under rest) n acts =
     with-node (stand rest n (λ t m. acts t (List·Memᴰ·tail m)))
     (subst (λ (k : ℕ). JoinedTable count input type k rows written) one (joined-table small j))
     (stand under n (λ t m. stands-for (joined-table small j) .all .acting t m ∙ one))
@@ -109,21 +110,21 @@ module _ {leaves : List (List ℕ)} {table : List ℕ} (t : Tree leaves table) w
     denying : (verdict table w ≡ false) ↔ (trips (rowStep table) 0 w ≡ true)
     denying = denies-exactly table w (tree-stands .enforced)
 
-    leaf-denies : {one : List ℕ} → Member one leaves → (verdict one w ≡ false) ↔ (trips (rowStep one) 0 w ≡ true)
+    leaf-denies : {one : List ℕ} → AmongTables one leaves → (verdict one w ≡ false) ↔ (trips (rowStep one) 0 w ≡ true)
     leaf-denies {one} m = denies-exactly one w (tree-stands .all .enforced one m)
 
     -- It denies exactly where at least one of the leaves denies.
-    pub tree-denies : (verdict table w ≡ false) ↔ ((one : List ℕ) × Member one leaves × (verdict one w ≡ false))
+    pub tree-denies : (verdict table w ≡ false) ↔ ((one : List ℕ) × AmongTables one leaves × (verdict one w ≡ false))
     tree-denies = (
       λ e. there (some-trips-member w leaves .0 (sym (tree-stands .reads w q) ∙ denying .0 e)),
       λ p. denying .1 (tree-stands .reads w q ∙ member-trips w (p .1) (leaf-denies (p .1) .0 (p .2))),
     )
       where
-        there : Tripping w leaves → (one : List ℕ) × Member one leaves × (verdict one w ≡ false)
+        there : Tripping w leaves → (one : List ℕ) × AmongTables one leaves × (verdict one w ≡ false)
         there f = (f .table, f .member, leaf-denies (f .member) .1 (f .trips-it))
 
     -- It is satisfied exactly where all of the leaves are.
-    pub tree-verdict : (verdict table w ≡ true) ↔ ((one : List ℕ) → Member one leaves → verdict one w ≡ true)
+    pub tree-verdict : (verdict table w ≡ true) ↔ ((one : List ℕ) → AmongTables one leaves → verdict one w ≡ true)
     tree-verdict =
         (λ e one m. holds (verdict one w) (λ d. not-both (sym e ∙ tree-denies .1 (one, m, d))), λ all. holds (verdict table w) (λ d. none-denies all (tree-denies .0 d)))
       where
@@ -131,7 +132,7 @@ module _ {leaves : List (List ℕ)} {table : List ℕ} (t : Tree leaves table) w
         holds true f = refl
         holds false f = absurd (f refl)
 
-        none-denies : ((one : List ℕ) → Member one leaves → verdict one w ≡ true) → (one : List ℕ) × Member one leaves × (verdict one w ≡ false) → ⊥
+        none-denies : ((one : List ℕ) → AmongTables one leaves → verdict one w ≡ true) → (one : List ℕ) × AmongTables one leaves × (verdict one w ≡ false) → ⊥
         none-denies all (one, m, d) = not-both (sym (all one m) ∙ d)
 
 -- Trees with the same leaves, in whatever groups and order, however often a leaf stands there, and under whatever limits, give the same bytes.
@@ -139,7 +140,7 @@ pub join-groups : {leaves others : List (List ℕ)} {t u : List ℕ} → Tree le
 join-groups {leaves} {others} {t} {u} a b s =
     equal-exactly-when-same-verdicts t u (tree-accepted a) (tree-accepted b) one-number .1 (record { same = same })
   where
-    first : (xs : List (List ℕ)) → (xs ≡ [] → ⊥) → (x : List ℕ) × Member x xs
+    first : (xs : List (List ℕ)) → (xs ≡ [] → ⊥) → (x : List ℕ) × AmongTables x xs
     first [] n = absurd (n refl)
     first (x ∷ xs) n = (x, List·Memᴰ·head refl)
 
@@ -160,8 +161,8 @@ leaves-of zero f fit = none
 leaves-of (suc n) f fit = leaf (f 0) (fit 0 (omega arith)) (leaves-of n (λ i. f (suc i)) (λ i h. fit (suc i) (omega arith)))
 
 -- A join by itself is a tree, whose leaves are its tables.
-pub join-tree : {count : ℕ} {input : List ℕ} {valueLimit rowLimit type actions rows : ℕ} {written : List ℕ} → rowLimit ≤ 64
-    → Joins count input valueLimit rowLimit (accepted type actions rows) written → Tree (tablesIn count input) written
-join-tree {count} {input} {valueLimit} {rowLimit} {type} {actions} {rows} {written} small j =
+pub join-tree : {count : ℕ} {input : List ℕ} {limits : Limits} {type actions rows : ℕ} {written : List ℕ} → limits .rows ≤ 64
+    → Joins count input limits (accepted type actions rows) written → Tree (tablesIn count input) written
+join-tree {count} {input} {limits} {type} {actions} {rows} {written} small j =
     subst (λ (leaves : List (List ℕ)). Tree leaves written) (append-nil (tablesIn count input))
-    (node count input valueLimit rowLimit type actions rows written small j (leaves-of count (tableAt input) (joined-table small j .joinable .tables .fit)) none)
+    (node count input limits type actions rows written small j (leaves-of count (tableAt input) (joined-table small j .joinable .tables .fit)) none)

@@ -7,6 +7,8 @@ use Prim.Native.Nat.{ℕ, _≤_, _<_}
 use native.Mathlib.Omega.{arith}
 use Rattle.trace.specs.Trace.{Sequence, trips}
 use Rattle.trace.specs.Limits.{SameRow, ManyRows}
+use Rattle.limits.specs.declared.Limits.{Limits}
+use Rattle.limits.specs.Limits.{largest}
 use Rattle.automaton.proofs.MinimalRows.{few-rows-suffice}
 use Rattle.table.specs.Table.{actionsOf, rowsOf, rowStep, Accepted, verdict}
 use Rattle.table.specs.Answer.{Answer, accepted as accepts, refused}
@@ -17,7 +19,7 @@ use Rattle.joining.specs.Joins.{Joins}
 use Rattle.making.specs.Making.{IsTable}
 use Rattle.joining_laws.specs.Answers.{Joinable}
 use Rattle.joining_laws.specs.Conjunction.{SatisfiedWhere, JoinedTable}
-use Rattle.joining_laws.specs.Sets.{Member, SameTables}
+use Rattle.joining_laws.specs.Sets.{AmongTables, SameTables}
 use Rattle.joining_laws.proofs.SomeTrips.{or-none, listed-member, member-listed}
 use Rattle.joining_laws.proofs.Outcome.{one-count}
 use Rattle.joining_laws.proofs.Answers.{join-table-exactly}
@@ -38,14 +40,14 @@ module _ {count : ℕ} {input : List ℕ} {actions : ℕ} (k : Joinable count in
   counted : actionsOf table ≡ actions
   counted = ap actionsOf (sym first) ∙ k .each 0 in-range
 
-  is-member : Member table (tablesIn count input)
-  is-member = subst (λ (t : List ℕ). Member t (tablesIn count input)) first (listed-member count (tableAt input) 0 in-range)
+  is-member : AmongTables table (tablesIn count input)
+  is-member = subst (λ (t : List ℕ). AmongTables t (tablesIn count input)) first (listed-member count (tableAt input) 0 in-range)
 
   only : SameTables (tablesIn count input) (table ∷ [])
   only =
       record {
         in-other = λ t m. let a = member-listed count (tableAt input) m in List·Memᴰ·head (a .2 ∙ all (a .0) (a .1));
-        in-one = λ t m. subst (λ (x : List ℕ). Member x (tablesIn count input)) (sym (List·Memᴰ·eq-of-singleton m)) is-member;
+        in-one = λ t m. subst (λ (x : List ℕ). AmongTables x (tablesIn count input)) (sym (List·Memᴰ·eq-of-singleton m)) is-member;
       }
 
   -- it trips where all do
@@ -89,8 +91,8 @@ module _ {count : ℕ} {input : List ℕ} {actions : ℕ} (k : Joinable count in
       → accepts type others count' ≡ accepts 1 actions (rowsOf table)
   same-answer t e a = let r = t .rows-are in let y = t .type-is in let z = ap rowsOf e in cc
 
-  module _ {valueLimit rowLimit : ℕ} (small : rowLimit ≤ 64) where
-    given : (x : Answer) {written : List ℕ} → Joins count input valueLimit rowLimit x written → IsTable x → (x ≡ accepts 1 actions (rowsOf table)) × (written ≡ table)
+  module _ {limits : Limits} (small : limits .rows ≤ 64) where
+    given : (x : Answer) {written : List ℕ} → Joins count input limits x written → IsTable x → (x ≡ accepts 1 actions (rowsOf table)) × (written ≡ table)
     given (refused number spot) c i = absurd i
     given (accepts type others count') {written} c i = by (joined-table small c)
       where
@@ -104,15 +106,15 @@ module _ {count : ℕ} {input : List ℕ} {actions : ℕ} (k : Joinable count in
             equal = is-joined-exactly t table fine (counted ∙ sym one) .1 (subst (λ (n : ℕ). SatisfiedWhere n table count input) (sym one) where-all)
 
     -- A join all of whose tables are one table gives this table.
-    pub join-itself-table : {type others rows : ℕ} {written : List ℕ} → Joins count input valueLimit rowLimit (accepts type others rows) written → written ≡ table
+    pub join-itself-table : {type others rows : ℕ} {written : List ℕ} → Joins count input limits (accepts type others rows) written → written ≡ table
     join-itself-table c = given _ c tt .1
 
     -- A table joined with itself, however often, is answered and is itself, where its rows are inside the limits.
-    pub join-itself : rowsOf table ≤ valueLimit → rowsOf table ≤ rowLimit → {x : Answer} {written : List ℕ} → Joins count input valueLimit rowLimit x written
+    pub join-itself : rowsOf table ≤ limits .values → rowsOf table ≤ limits .rows → {x : Answer} {written : List ℕ} → Joins count input limits x written
         → (x ≡ accepts 1 actions (rowsOf table)) × (written ≡ table)
     join-itself values rows {x} c =
         given x c (join-table-exactly c .1 (record { actions = actions; joinable = k; few-tuples = few-tuples values; few-rows = few-joined rows }))
 
   -- With the limits of the call, a table joined with itself, however often, is answered and is itself.
-  pub join-itself-always : {x : Answer} {written : List ℕ} → Joins count input 1024 64 x written → (x ≡ accepts 1 actions (rowsOf table)) × (written ≡ table)
+  pub join-itself-always : {x : Answer} {written : List ℕ} → Joins count input largest x written → (x ≡ accepts 1 actions (rowsOf table)) × (written ≡ table)
   join-itself-always c = let h = fine .formed .header .rows-high in join-itself (omega arith) (omega arith) h c

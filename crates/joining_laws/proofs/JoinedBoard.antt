@@ -4,17 +4,18 @@ use mathlib.Core.Path.{_≡_, _∙_, ap, subst}
 use mathlib.Core.List.{List, [], _∷_, _++_, List·Memᴰ·not-nil}
 use Prim.Native.Nat.{ℕ, _≤_}
 use native.Mathlib.Omega.{arith}
+use Rattle.limits.specs.declared.Limits.{Limits}
 use Rattle.table.specs.Table.{typeOf, actionsOf}
 use Rattle.table.specs.Answer.{accepted}
 use Rattle.places.specs.declared.Board.{Board}
 use Rattle.runs.specs.Events.{Event}
-use Rattle.histories.specs.History.{History}
-use Rattle.histories.proofs.HistoryRun.{history-run}
+use Rattle.board_laws.specs.History.{History}
+use Rattle.board_laws.proofs.HistoryRun.{history-run}
 use Rattle.runs.proofs.Reports.{beginning}
 use Rattle.joining.specs.Tables.{tableAt, tablesIn}
 use Rattle.joining.specs.Joins.{Joins}
 use Rattle.joining_laws.specs.Conjunction.{JoinedTable}
-use Rattle.joining_laws.specs.Sets.{Member, SameTables}
+use Rattle.joining_laws.specs.Sets.{AmongTables, SameTables}
 use Rattle.joining_laws.specs.Boards.{StandsFor, AlikeAnswers, Follow}
 use Rattle.runs.specs.Holding.{Holds, PutsOnly, ActsOnly}
 use Rattle.joining_laws.proofs.SomeTrips.{listed-member, member-listed}
@@ -34,16 +35,16 @@ stands-for {count} {input} {actions = actions} t =
     }
   where
     some : tablesIn count input ≡ [] → ⊥
-    some e = List·Memᴰ·not-nil (subst (Member (tableAt input 0)) e (listed-member count (tableAt input) 0 (omega (arith, t .joinable .tables .counted .low))))
+    some e = List·Memᴰ·not-nil (subst (AmongTables (tableAt input 0)) e (listed-member count (tableAt input) 0 (omega (arith, t .joinable .tables .counted .low))))
 
-    enforced : (table : List ℕ) → Member table (tablesIn count input) → typeOf table ≡ 1
+    enforced : (table : List ℕ) → AmongTables table (tablesIn count input) → typeOf table ≡ 1
     enforced table m = let (i, h, e) = member-listed count (tableAt input) m in ap typeOf e ∙ t .joinable .tables .fit i h .enforced
 
-    acting : (table : List ℕ) → Member table (tablesIn count input) → actionsOf table ≡ actions
+    acting : (table : List ℕ) → AmongTables table (tablesIn count input) → actionsOf table ≡ actions
     acting table m = let (i, h, e) = member-listed count (tableAt input) m in ap actionsOf e ∙ t .joinable .each i h
 
-module _ {valueLimit rowLimit : ℕ} (small : rowLimit ≤ 64) {count : ℕ} {input : List ℕ} {type actions rows : ℕ} {written : List ℕ}
-    (j : Joins count input valueLimit rowLimit (accepted type actions rows) written) where
+module _ {limits : Limits} (small : limits .rows ≤ 64) {count : ℕ} {input : List ℕ} {type actions rows : ℕ} {written : List ℕ}
+    (j : Joins count input limits (accepted type actions rows) written) where
   -- A board that holds the tables of a join and a board that holds the joined table, with the same actions permitted since, answer the same actions
   -- alike, so that only the place that a denial names may differ, and they hold the same again.
   pub joined-board-of-join : {events others : List Event} {since : List ℕ} → Holds events (tablesIn count input) since → Holds others (written ∷ []) since

@@ -8,6 +8,7 @@ use mathlib.Core.Logic.{_↔_}
 use Prim.Native.Nat.{ℕ, _≤_, _<_}
 use native.Mathlib.Omega.{arith}
 use Rattle.trace.specs.Trace.{Sequence, trips}
+use Rattle.limits.specs.declared.Limits.{Limits}
 use Rattle.table.specs.Table.{typeOf, actionsOf, rowsOf, rowStep, WellFormed, Accepted, verdict, SameVerdicts}
 use Rattle.table.specs.Answer.{accepted as accepts}
 use Rattle.table.proofs.Verdicts.{equal-exactly-when-same-verdicts, accepted-has-fewest-rows}
@@ -16,14 +17,14 @@ use Rattle.joining.specs.Tables.{tableAt, tablesIn}
 use Rattle.joining.specs.Meaning.{someTrips}
 use Rattle.joining.specs.Joins.{Meets, joins, Joins, meets}
 use Rattle.joining_laws.specs.Answers.{Joinable}
-use Rattle.joining_laws.specs.Conjunction.{AllSatisfied, SomeDenies, SameSatisfied, SatisfiedWhere, JoinedTable}
+use Rattle.joining_laws.specs.Conjunction.{AllSatisfied, SomeDenies, SameJoinsSatisfied, SatisfiedWhere, JoinedTable}
 use Rattle.joining_laws.proofs.SomeTrips.{same-truth, some-trips-exactly, none-trips-exactly}
 use Rattle.joining_laws.proofs.Enforced.{enforced-verdict, satisfied-exactly, denies-exactly}
 use Rattle.joining_laws.proofs.Outcome.{some-actions, few-actions}
 
-module _ {count : ℕ} {input : List ℕ} {valueLimit rowLimit : ℕ} (small : rowLimit ≤ 64) where
+module _ {count : ℕ} {input : List ℕ} {limits : Limits} (small : limits .rows ≤ 64) where
   met : {actions : ℕ} → Joinable count input actions → {type others rows : ℕ} {written : List ℕ}
-      → Meets (tablesIn count input) actions valueLimit rowLimit (accepts type others rows) written → JoinedTable count input type others rows written
+      → Meets (tablesIn count input) actions limits (accepts type others rows) written → JoinedTable count input type others rows written
   met {actions} j (joins f rows entries few r) =
       of (made-of 1 actions (omega arith) (omega arith) (some-actions count input (j .tables .counted) (j .each) (j .tables .fit))
       (few-actions count input (j .tables .counted) (j .each) (j .tables .fit)) (omega arith) r)
@@ -41,7 +42,7 @@ module _ {count : ℕ} {input : List ℕ} {valueLimit rowLimit : ℕ} (small : r
           }
 
   -- A join that answers a table gives an accepted, enforced table with these actions and rows, and it trips where at least one of the tables does.
-  pub joined-table : {type actions rows : ℕ} {written : List ℕ} → Joins count input valueLimit rowLimit (accepts type actions rows) written
+  pub joined-table : {type actions rows : ℕ} {written : List ℕ} → Joins count input limits (accepts type actions rows) written
       → JoinedTable count input type actions rows written
   joined-table (meets c fit w a over x t m) = met (record { tables = record { counted = c; fit = fit; whole = w }; each = over }) m
 
@@ -96,8 +97,8 @@ module _ {count : ℕ} {input : List ℕ} {type actions rows : ℕ} {written : L
           at w s =
               same-truth (verdict written w) (verdict table w) (λ e. v .same w s .1 (satisfied-by-all t w s .0 e)) (λ e. satisfied-by-all t w s .1 (v .same w s .0 e))
 
-module _ {valueLimit rowLimit : ℕ} (small : rowLimit ≤ 64) {count : ℕ} {input : List ℕ} {type actions rows : ℕ} {written : List ℕ}
-    (j : Joins count input valueLimit rowLimit (accepts type actions rows) written) where
+module _ {limits : Limits} (small : limits .rows ≤ 64) {count : ℕ} {input : List ℕ} {type actions rows : ℕ} {written : List ℕ}
+    (j : Joins count input limits (accepts type actions rows) written) where
   -- The table of a join is satisfied after a sequence exactly when all of its tables are.
   pub joined-verdict : (w : List ℕ) → Sequence actions w → (verdict written w ≡ true) ↔ ((i : ℕ) → i < count → verdict (tableAt input i) w ≡ true)
   joined-verdict = satisfied-by-all (joined-table small j)
@@ -121,25 +122,25 @@ module _ {valueLimit rowLimit : ℕ} (small : rowLimit ≤ 64) {count : ℕ} {in
           subst (λ (n : ℕ). n ≤ rowsOf table) (t .rows-are)
           (accepted-has-fewest-rows written table (t .accepted) formed (t .actions-are ∙ sym acts) (subst (λ (n : ℕ). SameVerdicts n written table) (sym (t .actions-are)) v))
 
-  -- Two joins that answer tables with as many actions give the same table, byte for byte, exactly when the same sequences satisfy all tables of
-  -- the one and all of the other.
-  pub joins-same-exactly : {count' : ℕ} {input' : List ℕ} {type' rows' : ℕ} {written' : List ℕ} → Joins count' input' valueLimit rowLimit (accepts type' actions rows') written'
-      → (written ≡ written') ↔ SameSatisfied actions count input count' input'
-  joins-same-exactly {count'} {input'} {type'} {rows'} {written'} k = by (joined-table small k)
+  -- Two joins, each under limits of its own, that answer tables with as many actions give the same table, byte for byte, exactly when the same
+  -- sequences satisfy all tables of the one and all of the other.
+  pub joins-same-exactly : {limits' : Limits} → limits' .rows ≤ 64 → {count' : ℕ} {input' : List ℕ} {type' rows' : ℕ} {written' : List ℕ}
+      → Joins count' input' limits' (accepts type' actions rows') written' → (written ≡ written') ↔ SameJoinsSatisfied actions count input count' input'
+  joins-same-exactly small' {count'} {input'} {type'} {rows'} {written'} k = by (joined-table small' k)
     where
-      by : JoinedTable count' input' type' actions rows' written' → (written ≡ written') ↔ SameSatisfied actions count input count' input'
+      by : JoinedTable count' input' type' actions rows' written' → (written ≡ written') ↔ SameJoinsSatisfied actions count input count' input'
       by u = (λ e. there (exactly .0 e), λ v. exactly .1 (back v))
         where
           exactly : (written ≡ written') ↔ SatisfiedWhere actions written' count input
           exactly = joined-equals-exactly written' (u .accepted) (u .actions-are)
 
-          there : SatisfiedWhere actions written' count input → SameSatisfied actions count input count' input'
+          there : SatisfiedWhere actions written' count input → SameJoinsSatisfied actions count input count' input'
           there v =
               record {
                 same = λ w s. (λ all. satisfied-by-all u w s .0 (v .same w s .1 all), λ all. v .same w s .0 (satisfied-by-all u w s .1 all));
               }
 
-          back : SameSatisfied actions count input count' input' → SatisfiedWhere actions written' count input
+          back : SameJoinsSatisfied actions count input count' input' → SatisfiedWhere actions written' count input
           back v =
               record {
                 same = λ w s. (λ e. v .same w s .1 (satisfied-by-all u w s .0 e), λ all. satisfied-by-all u w s .1 (v .same w s .0 all));

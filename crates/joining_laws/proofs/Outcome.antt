@@ -5,6 +5,8 @@ use mathlib.Core.List.{List}
 use Prim.Native.Nat.{ℕ, _≤_}
 use native.Mathlib.Decide.{decLt}
 use native.Mathlib.Omega.{arith}
+use Rattle.limits.specs.declared.Limits.{Limits}
+use Rattle.limits.specs.Limits.{largest}
 use Rattle.automaton.proofs.MinimalRows.{rows-unique, few-rows-suffice}
 use Rattle.table.specs.Answer.{Answer, accepted, refused}
 use Rattle.making.proofs.Calls.{made-determined}
@@ -53,24 +55,30 @@ module _ (count : ℕ) (input : List ℕ) (c : CountFits count) {actions : ℕ} 
   pub few-actions : FitBefore input count → actions ≤ 16
   few-actions fit = subst (λ (n : ℕ). n ≤ 16) (over 0 (omega (arith, c .low))) (fit 0 (omega (arith, c .low)) .accepted .formed .header .actions-high)
 
+-- Tables over one list of actions have one table, whatever the limits.
+pub one-table : {tables : List (List ℕ)} {actions : ℕ} {limits limits' : Limits} → 1 ≤ actions → {type others rows type' others' rows' : ℕ} {t u : List ℕ}
+    → Meets tables actions limits (accepted type others rows) t → Meets tables actions limits' (accepted type' others' rows') u → t ≡ u
+one-table some (joins f rows entries few r) (joins f' rows' entries' few' r') =
+    let e : (rows ≡ rows') × (entries ≡ entries') = rows-unique some r r' in cc (e .0, e .1)
+
 -- Tables over one list of actions have one answer and one table.
-pub meets-determined : {tables : List (List ℕ)} {actions valueLimit rowLimit : ℕ} → 1 ≤ actions → {x y : Answer} {t u : List ℕ}
-    → Meets tables actions valueLimit rowLimit x t → Meets tables actions valueLimit rowLimit y u → (x ≡ y) × (t ≡ u)
+pub meets-determined : {tables : List (List ℕ)} {actions : ℕ} {limits : Limits} → 1 ≤ actions → {x y : Answer} {t u : List ℕ}
+    → Meets tables actions limits x t → Meets tables actions limits y u → (x ≡ y) × (t ≡ u)
 meets-determined some (many-tuples o) (many-tuples o') = (refl, refl)
 meets-determined some (many-tuples o) (many-rows f o') = absurd (f o)
 meets-determined some (many-tuples o) (joins f rows entries few r) = absurd (f o)
 meets-determined some (many-rows f o) (many-tuples o') = absurd (f o')
 meets-determined some (many-rows f o) (many-rows f' o') = (refl, refl)
-meets-determined {rowLimit = rowLimit} some (many-rows f o) (joins f' rows entries few r) = absurd (few-rows-suffice r rowLimit few o)
+meets-determined {limits = limits} some (many-rows f o) (joins f' rows entries few r) = absurd (few-rows-suffice r (limits .rows) few o)
 meets-determined some (joins f rows entries few r) (many-tuples o) = absurd (f o)
-meets-determined {rowLimit = rowLimit} some (joins f rows entries few r) (many-rows f' o) = absurd (few-rows-suffice r rowLimit few o)
+meets-determined {limits = limits} some (joins f rows entries few r) (many-rows f' o) = absurd (few-rows-suffice r (limits .rows) few o)
 meets-determined {actions = actions} some (joins f rows entries few r) (joins f' rows' entries' few' r') =
     let e : (rows ≡ rows') × (entries ≡ entries') = rows-unique some r r' in
     (cc (e .0), cc (e .0, e .1))
 
-module _ {count : ℕ} {input : List ℕ} {valueLimit rowLimit : ℕ} where
+module _ {count : ℕ} {input : List ℕ} {limits : Limits} where
   -- Two outcomes of joining one input are one: what joining gives is a function of the count, the bytes and the limits.
-  pub joins-determined : {x y : Answer} {t u : List ℕ} → Joins count input valueLimit rowLimit x t → Joins count input valueLimit rowLimit y u → (x ≡ y) × (t ≡ u)
+  pub joins-determined : {x y : Answer} {t u : List ℕ} → Joins count input limits x t → Joins count input limits y u → (x ≡ y) × (t ≡ u)
   joins-determined (miscounted n) (miscounted m) = (refl, refl)
   joins-determined (miscounted n) (unfit d j l h b u) = absurd (n d)
   joins-determined (miscounted n) (left-over d fit o) = absurd (n d)
@@ -97,9 +105,9 @@ module _ {count : ℕ} {input : List ℕ} {valueLimit rowLimit : ℕ} where
   joins-determined (meets c fit w a over x t m) (mixed d fit' w' o) = absurd (o a over)
   joins-determined (meets c fit w a over x t m) (meets d fit' w' a' over' y u m') =
       meets-determined (some-actions count input c over fit) m
-      (subst (λ (n : ℕ). Meets (tablesIn count input) n valueLimit rowLimit y u) (sym (one-count count input c over over')) m')
+      (subst (λ (n : ℕ). Meets (tablesIn count input) n limits y u) (sym (one-count count input c over over')) m')
 
 -- The contract of the call determines the answer and every byte of the lent areas.
 pub join-call-determined : {count : ℕ} {input out work values : List ℕ} {x y : Answer} {o p w q v r : List ℕ}
     → JoinsInto count input out work values x o w v → JoinsInto count input out work values y p q r → (x ≡ y) × (o ≡ p) × (w ≡ q) × (v ≡ r)
-join-call-determined {count} {input} = made-determined (Joins count input 1024 64) (λ x y t u c d. joins-determined c d)
+join-call-determined {count} {input} = made-determined (Joins count input largest) (λ x y t u c d. joins-determined c d)

@@ -6,6 +6,7 @@ use mathlib.Core.List.{List}
 use mathlib.Core.Logic.{_↔_}
 use Prim.Native.Nat.{ℕ, _≤_, _<_}
 use Rattle.trace.specs.Trace.{Sequence}
+use Rattle.limits.specs.declared.Limits.{Limits}
 use Rattle.table.specs.Table.{actionsOf, verdict}
 use Rattle.table.specs.Answer.{accepted}
 use Rattle.compiler_laws.proofs.CompiledTable.{compiled-accepted, compiled-table}
@@ -20,11 +21,11 @@ use Rattle.joining_laws.proofs.JoinedTable.{joined-table, joined-verdic
 compiled-says : (table : List ℕ) (from : CompiledFrom table) (actions : ℕ) → actionsOf table ≡ actions → (w : List ℕ) → Sequence actions w
     → verdict table w ≡ satisfiesSheet (from .sheet) w
 compiled-says table from actions acts w s =
-    let t = compiled-table (from .bytes) (from .valueLimit) (from .rowLimit) (from .few) (from .read) (from .compiles) in
+    let t = compiled-table (from .bytes) (from .limits) (from .few) (from .read) (from .compiles) in
     t .verdicts w (subst (λ (n : ℕ). Sequence n w) (sym acts ∙ t .actions-are ∙ t .listed) s)
 
-module _ {valueLimit rowLimit : ℕ} (small : rowLimit ≤ 64) {count : ℕ} {input : List ℕ} {type actions rows : ℕ} {written : List ℕ}
-    (j : Joins count input valueLimit rowLimit (accepted type actions rows) written) (sheets : FromSheets count input) where
+module _ {limits : Limits} (small : limits .rows ≤ 64) {count : ℕ} {input : List ℕ} {type actions rows : ℕ} {written : List ℕ}
+    (j : Joins count input limits (accepted type actions rows) written) (sheets : FromSheets count input) where
   each : (w : List ℕ) → Sequence actions w → (i : ℕ) (h : i < count) → verdict (tableAt input i) w ≡ satisfiesSheet (sheets i h .sheet) w
   each w s i h = compiled-says (tableAt input i) (sheets i h) actions (joined-table small j .joinable .each i h) w s
 
@@ -40,7 +41,7 @@ module _ {valueLimit rowLimit : ℕ} (small : rowLimit ≤ 64) {count : ℕ} {in
   joined-is-compiled-exactly table from acts = (λ e. record { same = λ w s. there e w s }, λ v. exactly .1 (record { same = λ w s. back v w s }))
     where
       exactly : (written ≡ table) ↔ SatisfiedWhere actions table count input
-      exactly = joined-equals-exactly small j table (compiled-accepted (from .bytes) (from .valueLimit) (from .rowLimit) (from .few) (from .compiles)) acts
+      exactly = joined-equals-exactly small j table (compiled-accepted (from .bytes) (from .limits) (from .few) (from .compiles)) acts
 
       own : (w : List ℕ) → Sequence actions w → verdict table w ≡ satisfiesSheet (from .sheet) w
       own w s = compiled-says table from actions acts w s

@@ -8,6 +8,7 @@ use native.Mathlib.Omega.{arith}
 use Rattle.trace.specs.Trace.{Sequence, Move, go, run}
 use Rattle.trace.specs.Limits.{SameRow, ManyRows}
 use Rattle.trace.proofs.Laws.{sequence-append}
+use Rattle.limits.specs.declared.Limits.{Limits}
 use Rattle.automaton.specs.Minimal.{RowsOf}
 use Rattle.table.specs.Table.{actionsOf, rowStep}
 use Rattle.table.specs.Answer.{Answer, accepted as accepts}
@@ -15,9 +16,9 @@ use Rattle.joining.specs.Tables.{tableAt, tablesIn}
 use Rattle.joining.specs.Meaning.{someTrips, rowsAfter, OverTuples, OverJoinedRows}
 use Rattle.joining.specs.Joins.{Meets, many-tuples, many-rows, joins, Joins, miscounted, unfit, left-over, mixed, meets}
 use Rattle.joining_laws.specs.Answers.{Joinable}
-use Rattle.joining_laws.specs.Sets.{Member, Among, SameTables}
+use Rattle.joining_laws.specs.Sets.{AmongTables, Among, SameTables}
 use Rattle.joining_laws.proofs.SomeTrips.{same-truth, some-trips-member, member-trips, listed-member, member-listed}
-use Rattle.joining_laws.proofs.Outcome.{not-unfit, one-count, some-actions, meets-determined}
+use Rattle.joining_laws.proofs.Outcome.{not-unfit, one-count, some-actions, one-table, meets-determined}
 use Rattle.joining_laws.proofs.Answers.{join-table-exactly}
 
 among-trips : {tables others : List (List ℕ)} → Among tables others → (w : List ℕ) → someTrips tables w ≡ true → someTrips others w ≡ true
@@ -32,13 +33,13 @@ module _ (u w : List ℕ) where
   abbrev pub OneRow : List ℕ → Type 0
   OneRow table = run (rowStep table) (go 0) u ≡ run (rowStep table) (go 0) w
 
-  each-row : {tables : List (List ℕ)} {table : List ℕ} → Member table tables → rowsAfter tables u ≡ rowsAfter tables w → OneRow table
+  each-row : {tables : List (List ℕ)} {table : List ℕ} → AmongTables table tables → rowsAfter tables u ≡ rowsAfter tables w → OneRow table
   each-row (List·Memᴰ·head {x = x} {xs} e) q =
       let first : OneRow x = cc (q) in subst OneRow (sym e) first
   each-row (List·Memᴰ·tail {x = x} {xs} m) q = let rest : rowsAfter xs u ≡ rowsAfter xs w = cc (q) in each-row m rest
 
   -- Sequences that lead each table to one row lead to one tuple of rows.
-  pub all-rows : (tables : List (List ℕ)) → ((table : List ℕ) → Member table tables → OneRow table) → rowsAfter tables u ≡ rowsAfter tables w
+  pub all-rows : (tables : List (List ℕ)) → ((table : List ℕ) → AmongTables table tables → OneRow table) → rowsAfter tables u ≡ rowsAfter tables w
   all-rows [] h = refl
   all-rows (table ∷ tables) h =
       ap₂ (λ (m : Move ℕ) (l : List (Move ℕ)). m ∷ l) (h table (List·Memᴰ·head refl)) (all-rows tables (λ t m. h t (List·Memᴰ·tail m)))
@@ -82,15 +83,15 @@ pub turned : {tables others : List (List ℕ)} → SameTables tables others → 
 turned s = record { in-other = s .in-one; in-one = s .in-other }
 
 -- Lists with the same tables over one list of actions give the same answer and the same table.
-pub meets-order : {tables others : List (List ℕ)} → SameTables tables others → {actions valueLimit rowLimit : ℕ} {x : Answer} {t : List ℕ}
-    → Meets tables actions valueLimit rowLimit x t → Meets others actions valueLimit rowLimit x t
+pub meets-order : {tables others : List (List ℕ)} → SameTables tables others → {actions : ℕ} {limits : Limits} {x : Answer} {t : List ℕ}
+    → Meets tables actions limits x t → Meets others actions limits x t
 meets-order s (many-tuples o) = many-tuples (over-tuples s o)
 meets-order s (many-rows f o) = many-rows (λ e. f (over-tuples (turned s) e)) (over-rows s o)
 meets-order s (joins f rows entries few r) = joins (λ e. f (over-tuples (turned s) e)) rows entries few (rows-of s r)
 
 -- Inputs with a common table have one number of actions.
 pub common-actions : {count count' : ℕ} {input input' : List ℕ} {actions actions' : ℕ} → Joinable count input actions → Joinable count' input' actions'
-    → (table : List ℕ) → Member table (tablesIn count input) → Member table (tablesIn count' input') → actions ≡ actions'
+    → (table : List ℕ) → AmongTables table (tablesIn count input) → AmongTables table (tablesIn count' input') → actions ≡ actions'
 common-actions {count} {count'} {input} {input'} k k' table m m' =
     let a = member-listed count (tableAt input) m in
     let b = member-listed count' (tableAt input') m' in
@@ -101,26 +102,31 @@ same-number : {count count' : ℕ} {input input' : List ℕ} {actions actions' :
 same-number {count} {input = input} k k' s =
     let m = listed-member count (tableAt input) 0 (omega (arith, k .tables .counted .low)) in common-actions k k' (tableAt input 0) m (s .in-other (tableAt input 0) m)
 
-module _ {valueLimit rowLimit : ℕ} where
+module _ {limits : Limits} where
   -- what tables that can be joined give
-  met : {count : ℕ} {input : List ℕ} {actions : ℕ} → Joinable count input actions → {x : Answer} {t : List ℕ} → Joins count input valueLimit rowLimit x t
-      → Meets (tablesIn count input) actions valueLimit rowLimit x t
+  met : {count : ℕ} {input : List ℕ} {actions : ℕ} → Joinable count input actions → {x : Answer} {t : List ℕ} → Joins count input limits x t
+      → Meets (tablesIn count input) actions limits x t
   met k (miscounted n) = absurd (n (k .tables .counted))
   met k (unfit c i number h b u) = not-unfit (k .tables .fit i h) u
   met k (left-over c fit o) = absurd (o (k .tables .whole))
   met {actions = actions} k (mixed c fit w o) = absurd (o actions (k .each))
   met {count} {input} k (meets c fit w a over x t m) =
-      subst (λ (n : ℕ). Meets (tablesIn count input) n valueLimit rowLimit x t) (one-count count input c over (k .each)) m
+      subst (λ (n : ℕ). Meets (tablesIn count input) n limits x t) (one-count count input c over (k .each)) m
 
   module _ {count count' : ℕ} {input input' : List ℕ} (s : SameTables (tablesIn count input) (tablesIn count' input')) where
     -- Order and repetition do not matter: inputs that can be joined and have the same tables get the same answer and the same bytes.
     pub join-order-answer : {actions actions' : ℕ} → Joinable count input actions → Joinable count' input' actions' → {x y : Answer} {t u : List ℕ}
-        → Joins count input valueLimit rowLimit x t → Joins count' input' valueLimit rowLimit y u → (x ≡ y) × (t ≡ u)
+        → Joins count input limits x t → Joins count' input' limits y u → (x ≡ y) × (t ≡ u)
     join-order-answer {actions} k k' {y = y} {u = u} c d =
         meets-determined (some-actions count input (k .tables .counted) (k .each) (k .tables .fit)) (met k c)
-        (meets-order (turned s) (subst (λ (n : ℕ). Meets (tablesIn count' input') n valueLimit rowLimit y u) (sym (same-number k k' s)) (met k' d)))
+        (meets-order (turned s) (subst (λ (n : ℕ). Meets (tablesIn count' input') n limits y u) (sym (same-number k k' s)) (met k' d)))
 
-    -- Two joins that answer tables, of inputs with the same tables, write the same bytes.
-    pub join-order : {type actions rows type' actions' rows' : ℕ} {t u : List ℕ}
-        → Joins count input valueLimit rowLimit (accepts type actions rows) t → Joins count' input' valueLimit rowLimit (accepts type' actions' rows') u → t ≡ u
-    join-order c d = join-order-answer (join-table-exactly c .0 tt .joinable) (join-table-exactly d .0 tt .joinable) c d .1
+-- Two joins that answer tables, of inputs with the same tables, write the same bytes, whatever the limits of each.
+pub join-order : {limits limits' : Limits} {count count' : ℕ} {input input' : List ℕ} → SameTables (tablesIn count input) (tablesIn count' input')
+    → {type actions rows type' actions' rows' : ℕ} {t u : List ℕ}
+    → Joins count input limits (accepts type actions rows) t → Joins count' input' limits' (accepts type' actions' rows') u → t ≡ u
+join-order {limits' = limits'} {count} {count'} {input} {input'} s {type' = type'} {actions'} {rows'} {u = u} c d =
+    let k = join-table-exactly c .0 tt .joinable in
+    let k' = join-table-exactly d .0 tt .joinable in
+    one-table (some-actions count input (k .tables .counted) (k .each) (k .tables .fit)) (met k c)
+    (meets-order (turned s) (subst (λ (n : ℕ). Meets (tablesIn count' input') n limits' (accepts type' actions' rows') u) (sym (same-number k k' s)) (met k' d)))

@@ -12,7 +12,7 @@ use Rattle.trace.proofs.Laws.{not-both}
 use Rattle.table.specs.Table.{rowStep}
 use Rattle.joining.specs.Tables.{listed}
 use Rattle.joining.specs.Meaning.{someTrips}
-use Rattle.joining_laws.specs.Sets.{Member}
+use Rattle.joining_laws.specs.Sets.{AmongTables}
 
 -- Two truths that hold together are equal.
 pub same-truth : (a b : Bool) → (a ≡ true → b ≡ true) → (b ≡ true → a ≡ true) → a ≡ b
@@ -30,11 +30,11 @@ module _ (w : List ℕ) where
   -- A table of a list that trips.
   pub record Tripping (tables : List (List ℕ)) : Type 0 where
     pub table : List ℕ
-    pub member : Member table tables
+    pub member : AmongTables table tables
     pub trips-it : trips (rowStep table) 0 w ≡ true
 
   -- Where a table of a list trips, at least one of the list does.
-  pub member-trips : {tables : List (List ℕ)} {table : List ℕ} → Member table tables → trips (rowStep table) 0 w ≡ true → someTrips tables w ≡ true
+  pub member-trips : {tables : List (List ℕ)} {table : List ℕ} → AmongTables table tables → trips (rowStep table) 0 w ≡ true → someTrips tables w ≡ true
   member-trips {tables} (List·Memᴰ·head {x = x} {xs} e) t =
       either-true (trips (rowStep x) 0 w) (someTrips xs w) (inl (subst (λ (l : List ℕ). trips (rowStep l) 0 w ≡ true) e t))
   member-trips (List·Memᴰ·tail {x = x} {xs} m) t = either-true (trips (rowStep x) 0 w) (someTrips xs w) (inr (member-trips m t))
@@ -91,17 +91,17 @@ module _ (w : List ℕ) where
   none-trips-exactly n f = (each-not n f, none-trips n f)
 
 -- The table of each number below n is one of the list.
-pub listed-member : (n : ℕ) (f : ℕ → List ℕ) (i : ℕ) → i < n → Member (f i) (listed n f)
+pub listed-member : (n : ℕ) (f : ℕ → List ℕ) (i : ℕ) → i < n → AmongTables (f i) (listed n f)
 listed-member zero f i h = absurd (let z = h in omega arith)
 listed-member (suc n) f zero h = List·Memᴰ·head refl
 listed-member (suc n) f (suc i) h = List·Memᴰ·tail (listed-member n (λ i. f (suc i)) i (omega arith))
 
 -- Each of the list is the table of a number below n.
-pub member-listed : (n : ℕ) (f : ℕ → List ℕ) {table : List ℕ} → Member table (listed n f) → (i : ℕ) × (i < n) × (table ≡ f i)
+pub member-listed : (n : ℕ) (f : ℕ → List ℕ) {table : List ℕ} → AmongTables table (listed n f) → (i : ℕ) × (i < n) × (table ≡ f i)
 member-listed zero f m = absurd (List·Memᴰ·not-nil m)
 member-listed (suc n) f {table} m = by (λ r. member-listed n (λ i. f (suc i)) r) (List·Memᴰ·cases-cons m)
   where
-    by : (Member table (listed n (λ i. f (suc i))) → (i : ℕ) × (i < n) × (table ≡ f (suc i))) → (table ≡ f 0) ⊎ Member table (listed n (λ i. f (suc i)))
+    by : (AmongTables table (listed n (λ i. f (suc i))) → (i : ℕ) × (i < n) × (table ≡ f (suc i))) → (table ≡ f 0) ⊎ AmongTables table (listed n (λ i. f (suc i)))
         → (i : ℕ) × (i < suc n) × (table ≡ f i)
     by more (inl e) = (0, omega arith, e)
     by more (inr r) = let s = more r in (suc (s .0), omega (arith, s .1), s .2)

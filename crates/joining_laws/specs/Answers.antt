@@ -3,6 +3,7 @@
 use mathlib.Core.Path.{_≡_}
 use mathlib.Core.List.{List, []}
 use Prim.Native.Nat.{ℕ, _<_}
+use Rattle.limits.specs.declared.Limits.{Limits}
 use Rattle.joining.specs.Tables.{restAt, tableAt, tablesIn, Unfit, FitBefore, AllOver, CountFits}
 use Rattle.joining.specs.Meaning.{OverTuples, OverJoinedRows}
 
@@ -37,21 +38,21 @@ pub record Mixed (count : ℕ) (input : List ℕ) : Type 0 where
   pub none : (actions : ℕ) → AllOver actions count input → ⊥
 
 -- More tuples of rows than the limit.
-pub record ManyTuples (count : ℕ) (input : List ℕ) (valueLimit : ℕ) : Type 0 where
+pub record ManyTuples (count : ℕ) (input : List ℕ) (limits : Limits) : Type 0 where
   pub actions : ℕ
   pub joinable : Joinable count input actions
-  pub over : OverTuples actions (tablesIn count input) valueLimit
+  pub over : OverTuples actions (tablesIn count input) (limits .values)
 
 -- No more tuples than the limit, and more rows.
-pub record ManyJoinedRows (count : ℕ) (input : List ℕ) (valueLimit rowLimit : ℕ) : Type 0 where
+pub record ManyJoinedRows (count : ℕ) (input : List ℕ) (limits : Limits) : Type 0 where
   pub actions : ℕ
   pub joinable : Joinable count input actions
-  pub few : OverTuples actions (tablesIn count input) valueLimit → ⊥
-  pub over : OverJoinedRows actions (tablesIn count input) rowLimit
+  pub few : OverTuples actions (tablesIn count input) (limits .values) → ⊥
+  pub over : OverJoinedRows actions (tablesIn count input) (limits .rows)
 
 -- None of the refusals applies: the tables can be joined, inside both limits.
-pub record InsideLimits (count : ℕ) (input : List ℕ) (valueLimit rowLimit : ℕ) : Type 0 where
+pub record JoinInsideLimits (count : ℕ) (input : List ℕ) (limits : Limits) : Type 0 where
   pub actions : ℕ
   pub joinable : Joinable count input actions
-  pub few-tuples : OverTuples actions (tablesIn count input) valueLimit → ⊥
-  pub few-rows : OverJoinedRows actions (tablesIn count input) rowLimit → ⊥
+  pub few-tuples : OverTuples actions (tablesIn count input) (limits .values) → ⊥
+  pub few-rows : OverJoinedRows actions (tablesIn count input) (limits .rows) → ⊥

@@ -9,13 +9,13 @@ use Rattle.view.specs.Steps.{act, Reply, denied}
 use Rattle.runs.specs.Events.{Event, event}
 use Rattle.runs.specs.Holding.{Holds}
 use Rattle.joining.specs.Meaning.{someTrips}
-use Rattle.joining_laws.specs.Sets.{Member}
+use Rattle.joining_laws.specs.Sets.{AmongTables}
 
 -- One table or more, all enforced, over one number of actions.
 pub record AllEnforced (tables : List (List ℕ)) (actions : ℕ) : Type 0 where
   pub some : tables ≡ [] → ⊥
-  pub enforced : (table : List ℕ) → Member table tables → typeOf table ≡ 1
-  pub acting : (table : List ℕ) → Member table tables → actionsOf table ≡ actions
+  pub enforced : (table : List ℕ) → AmongTables table tables → typeOf table ≡ 1
+  pub acting : (table : List ℕ) → AmongTables table tables → actionsOf table ≡ actions
 
 -- A table that stands for several: all are enforced, over one number of actions, and it trips where at least one of them does.
 pub record StandsFor (table : List ℕ) (tables : List (List ℕ)) (actions : ℕ) : Type 0 where

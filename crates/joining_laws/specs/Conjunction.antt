@@ -22,7 +22,7 @@ pub record SomeDenies (count : ℕ) (input w : List ℕ) : Type 0 where
   pub denies : verdict (tableAt input at) w ≡ false
 
 -- The same sequences satisfy all tables of the one input and all of the other.
-pub record SameSatisfied (actions count : ℕ) (input : List ℕ) (count' : ℕ) (input' : List ℕ) : Type 0 where
+pub record SameJoinsSatisfied (actions count : ℕ) (input : List ℕ) (count' : ℕ) (input' : List ℕ) : Type 0 where
   pub same : (w : List ℕ) → Sequence actions w → AllSatisfied count input w ↔ AllSatisfied count' input' w
 
 -- A table is satisfied exactly where all tables of the input are.

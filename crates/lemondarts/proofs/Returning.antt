@@ -8,7 +8,7 @@ use lib.ListN.{length}
 use Rattle.places.specs.declared.Board.{Board}
 use Rattle.view.specs.Steps.{Reply}
 use Rattle.records.specs.Record.{recordLength, boardOf, written}
-use Rattle.answers.specs.Numbers.{packedReply, AnswerIs}
+use Rattle.board_answers.specs.Numbers.{packedReply, AnswerIs}
 use Rattle.lemondarts.specs.Exports.{Returns, called}
 
 -- a call made on the board that was read, its answer told, and its board written back

@@ -10,7 +10,8 @@ use Rattle.places.specs.declared.Board.{Board}
 use Rattle.view.specs.Steps.{Call, Reply, input, changes}
 use Rattle.view.specs.Calls.{Makes, Calls}
 use Rattle.records.specs.Record.{recordLength, boardOf, written}
-use Rattle.answers.specs.Numbers.{packedReply, packedAnswer}
+use Rattle.board_answers.specs.Numbers.{packedReply}
+use Rattle.answers.specs.Numbers.{packedAnswer}
 
 -- The loader: the number of what it answers.
 pub record LoadReturns (table : List ℕ) (returned : ℕ) : Type 0 where

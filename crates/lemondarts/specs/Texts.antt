@@ -3,13 +3,11 @@
 use mathlib.Core.Path.{_≡_}
 use mathlib.Core.List.{List}
 use Prim.Native.Nat.{ℕ}
-use Rattle.text_reader.specs.Calling.{TextAnswer, ReadsInto}
-use Rattle.text_laws.specs.Passing.{Narrow}
+use Rattle.parser.specs.Calling.{TextAnswer, ReadsInto}
 use Rattle.answers.specs.Texts.{packedText}
 
--- The number of what the reader answers, with the output that it leaves. The entries of the lent action list have 16 bits.
+-- The number of what the reader answers, with the output that it leaves.
 pub record TextReturns (text actions sheet : List ℕ) (returned : ℕ) (sheet' : List ℕ) : Type 0 where
   pub answer : TextAnswer
   pub reads : ReadsInto text actions sheet answer sheet'
   pub number : returned ≡ packedText answer
-  pub narrow : Narrow actions

@@ -1,10 +1,10 @@
 // The calls. Each reads the board from its bytes, makes the call that it wraps, and writes the board back where the answer changes it.
-use answers::NumberedReply;
-use answers::act_answer;
 use answers::load_number;
-use answers::made_answer;
-use answers::put_answer;
-use answers::take_answer;
+use board_answers::NumberedReply;
+use board_answers::act_answer;
+use board_answers::made_answer;
+use board_answers::put_answer;
+use board_answers::take_answer;
 use places::Board;
 use records::RECORD;
 use records::read_board;
@@ -33,7 +33,7 @@ fn write_back(bytes: &mut [u8], next: Board, answer: NumberedReply) -> u64
 pub extern "C" fn lemondarts_load(table: &[u8]) -> u64
     ensures { λ r. ⌜ LoadReturns (now (table .entry)) r ⌝ }
 {
-    load_number(table::load(table))
+    load_number(loader::load(table))
 }
 
 // Makes a new board.
@@ -91,7 +91,7 @@ pub extern "C" fn lemondarts_action(bytes: &mut [u8], area: &[u8], action: usize
     if bytes.len() < RECORD {
         return 14;
     }
-    let acted = board::action(read_board(bytes), area, action);
+    let acted = board_actions::action(read_board(bytes), area, action);
     let next = acted.board;
     let reply = acted.answer;
     write_back(bytes, next, act_answer(reply))

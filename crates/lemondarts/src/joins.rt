@@ -2,7 +2,7 @@
 use answers::join_number;
 ghost use Rattle.lemondarts.specs.Joining.{JoinReturns};
 
-// Joins as many tables as `count` says, one behind the other in `tables`, into `out`: the joined table's type, actions and rows, or a refusal. Both
+// Joins as many tables as `count` says, one after the other in `tables`, into `out`: the joined table's type, actions and rows, or a refusal. Both
 // work areas are zero on return, save for refusal 14.
 #[no_mangle]
 pub extern "C" fn lemondarts_join(

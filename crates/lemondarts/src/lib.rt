@@ -4,6 +4,7 @@ mod compiling;
 mod explanations;
 mod joins;
 mod texts;
+mod version;
 
 pub use calls::lemondarts_action;
 pub use calls::lemondarts_load;
@@ -14,3 +15,4 @@ pub use compiling::lemondarts_compile;
 pub use explanations::lemondarts_explain;
 pub use joins::lemondarts_join;
 pub use texts::lemondarts_read_text;
+pub use version::lemondarts_version;

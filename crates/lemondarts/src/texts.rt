@@ -7,5 +7,5 @@ ghost use Rattle.lemondarts.specs.Texts.{TextReturns};
 pub extern "C" fn lemondarts_read_text(text: &[u8], actions: &[u16], sheet: &mut [u8]) -> u64
     ensures { λ r. ⌜ TextReturns (now (text .entry)) (now (actions .entry)) (now (sheet .entry)) r (now (sheet .exit)) ⌝ }
 {
-    text_number(text_reader::read_text(text, actions, sheet))
+    text_number(parser::read_text(text, actions, sheet))
 }

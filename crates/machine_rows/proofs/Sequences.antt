@@ -11,7 +11,7 @@ use Rattle.trace.specs.Limits.{SameRow, Many, ManyValues, ManyRows}
 use Rattle.trace.proofs.Laws.{run-append, sequence-append}
 use Rattle.automaton.specs.Minimal.{RowsOf}
 use Rattle.policy.specs.Closed.{answer}
-use Rattle.explore.specs.Explored.{Reached, OverReached}
+use Rattle.explore.specs.Explored.{ReachedState, OverReached}
 use Rattle.machine_rows.specs.Machines.{OverStates, RowsFor}
 
 answered : (b : Bool) (v : ℕ) → isTrip (answer b v) ≡ b
@@ -31,14 +31,14 @@ module _ {X : Type 0} (actions : ℕ) (tripped : List ℕ → Bool) (remembered 
   codes-go w p e = codes w p ∙ ap (λ (b : Bool). answer b (code (remembered w))) e
 
   -- a reached number is that of what is remembered of its word, which has not tripped
-  reached-untripped : (c : ℕ) (r : Reached actions step start c) → tripped (r .word) ≡ false
+  reached-untripped : (c : ℕ) (r : ReachedState actions step start c) → tripped (r .word) ≡ false
   reached-untripped c r = sym (codes-trip (r .word) (r .sequence)) ∙ ap isTrip (r .leads)
 
-  reached-value : (c : ℕ) (r : Reached actions step start c) → code (remembered (r .word)) ≡ c
+  reached-value : (c : ℕ) (r : ReachedState actions step start c) → code (remembered (r .word)) ≡ c
   reached-value c r = go-inj (sym (codes-go (r .word) (r .sequence) (reached-untripped c r)) ∙ r .leads)
 
   -- words for numbers up to a limit
-  module _ (limit : ℕ) (pick : ℕ → ℕ) (reached : (c : ℕ) → c ≤ limit → Reached actions step start (pick c)) where
+  module _ (limit : ℕ) (pick : ℕ → ℕ) (reached : (c : ℕ) → c ≤ limit → ReachedState actions step start (pick c)) where
     wordBy : (c : ℕ) → Dec (c ≤ limit) → List ℕ
     wordBy c (yes h) = reached c h .word
     wordBy c (no h) = []
@@ -46,16 +46,16 @@ module _ {X : Type 0} (actions : ℕ) (tripped : List ℕ → Bool) (remembered 
     words : ℕ → List ℕ
     words c = wordBy c (decLe c limit)
 
-    word-of : (c : ℕ) → c ≤ limit → (r : Reached actions step start (pick c)) × (words c ≡ r .word)
+    word-of : (c : ℕ) → c ≤ limit → (r : ReachedState actions step start (pick c)) × (words c ≡ r .word)
     unfolding wordBy words
     word-of c h = by (decLe c limit)
       where
-        by : (d : Dec (c ≤ limit)) → (r : Reached actions step start (pick c)) × (wordBy c d ≡ r .word)
+        by : (d : Dec (c ≤ limit)) → (r : ReachedState actions step start (pick c)) × (wordBy c d ≡ r .word)
         by (yes g) = (reached c g, refl)
         by (no g) = absurd (g h)
 
     many : (R : List ℕ → List ℕ → Type 0)
-        → ((c d : ℕ) → c < d → d ≤ limit → (r : Reached actions step start (pick c)) (s : Reached actions step start (pick d)) → R (r .word) (s .word) → ⊥)
+        → ((c d : ℕ) → c < d → d ≤ limit → (r : ReachedState actions step start (pick c)) (s : ReachedState actions step start (pick d)) → R (r .word) (s .word) → ⊥)
         → Many actions tripped limit R
     many R apart =
         record {
@@ -95,7 +95,7 @@ module _ {X : Type 0} (actions : ℕ) (tripped : List ℕ → Bool) (remembered 
           m .apart c d l h (injective (m .pick c) (m .pick d) (m .sequence c g) (m .sequence d h) (m .untripped c g) (m .untripped d h) e)
 
   -- what trips behind a reached state
-  behind : (c : ℕ) (r : Reached actions step start c) (v : List ℕ) → Sequence actions v → trips step c v ≡ tripped (r .word ++ v)
+  behind : (c : ℕ) (r : ReachedState actions step start c) (v : List ℕ) → Sequence actions v → trips step c v ≡ tripped (r .word ++ v)
   behind c r v p =
       ap (λ (m : Move ℕ). isTrip (run step m v)) (sym (r .leads)) ∙ ap isTrip (sym (run-append step (go start) (r .word) v))
       ∙ codes-trip (r .word ++ v) (sequence-append actions (r .word) v (r .sequence) p)
@@ -104,7 +104,7 @@ module _ {X : Type 0} (actions : ℕ) (tripped : List ℕ → Bool) (remembered 
   pub over-rows : (limit : ℕ) → OverStates actions step start limit → ManyRows actions tripped limit
   over-rows limit o = many limit (o .pick) (o .reached) (SameRow actions tripped) far
     where
-      far : (c d : ℕ) → c < d → d ≤ limit → (r : Reached actions step start (o .pick c)) (s : Reached actions step start (o .pick d))
+      far : (c d : ℕ) → c < d → d ≤ limit → (r : ReachedState actions step start (o .pick c)) (s : ReachedState actions step start (o .pick d))
           → SameRow actions tripped (r .word) (s .word) → ⊥
       far c d l h r s e =
           o .apart c d l h (record { same = λ v p. behind (o .pick c) r v p ∙ e .same v p ∙ sym (behind (o .pick d) s v p) })

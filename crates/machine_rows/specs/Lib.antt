@@ -1,4 +1,3 @@
 pub mod Machines
 pub mod Minimises
 pub mod Builds
-pub mod Planned

@@ -5,6 +5,7 @@ use mathlib.Core.List.{List}
 use Prim.Native.Nat.{ℕ, _*_, _≤_, _<_}
 use lib.ListN.{length, getD, take}
 use Rattle.trace.specs.Trace.{Step}
+use Rattle.limits.specs.Limits.{RowLimit}
 use Rattle.automaton.specs.Machine.{transition, AlikeStates, Machine, Numbered}
 use Rattle.automaton.specs.Partition.{Over}
 use Rattle.automaton.specs.declared.Refined.{Refined}
@@ -26,8 +27,7 @@ pub record Minimisable (actions limit : ℕ) (next classes other slot : List ℕ
   pub acting : 0 < actions
   pub some : 0 < length classes
   pub paired : length other ≡ length classes
-  pub positive : 0 < limit
-  pub small : limit ≤ 64
+  pub limited : RowLimit limit
   pub machine : Machine 65535 (length classes) actions next
   pub numbered : Numbered 65535 (length classes) actions next
   pub room : limit * actions ≤ length slot

@@ -1,6 +1,6 @@
 // The quotient of a machine by alikeness, in a slot.
-use crate::scratch::room_for_firsts;
 use automaton::Refined;
+use refinement::room_for_firsts;
 ghost use lib.ListN.{length};
 ghost use Rattle.machine_rows.specs.Minimises.{MinimisesTo, Minimisable};
 
@@ -17,11 +17,11 @@ pub fn minimise(
     ensures { λ r. ⌜ MinimisesTo (length (now (classes .entry))) actions (now (next .entry)) limit r (now (slot .entry)) (now (slot .exit)) ⌝ }
 {
     let mut firsts = room_for_firsts();
-    let refined = automaton::refine(next, actions, limit, classes, other, &mut firsts);
+    let refined = refinement::refine(next, actions, limit, classes, other, &mut firsts);
     let Refined::Classes(count) = refined else {
         return Refined::TooMany;
     };
     base::fill(slot, 255);
-    automaton::quotient(next, classes, &firsts, actions, count, slot);
+    quotient::quotient(next, classes, &firsts, actions, count, slot);
     Refined::Classes(count)
 }

@@ -3,12 +3,19 @@ mod divide;
 mod scratch;
 mod sizes;
 
-pub use sizes::Plan;
+use limits::Limits;
 pub use sizes::build_large;
 use sizes::build_small;
 use steppers::Stepper;
-ghost use Rattle.steppers.specs.Steppers.{stepBy, startBy};
-ghost use Rattle.machine_rows.specs.Builds.{BuildsTo, Buildable};
+ghost use Rattle.machine_rows.specs.Builds.{PlanTo, Buildable};
+
+// What is to be built: which machine, its slot, and the most values and rows that it may have.
+pub struct Plan {
+    pub stepper: Stepper,
+    pub slot: usize,
+    pub actions: usize,
+    pub limits: Limits,
+}
 
 // What building a machine's rows answers: their number, or the limit that the machine is over.
 pub enum MachineBuilt {
@@ -17,36 +24,26 @@ pub enum MachineBuilt {
     TooManyRows,
 }
 
-// Builds the rows of a machine and writes them to slot n of the work area; the rest of the slot becomes 255. Where a limit is
+// Builds the rows of a machine and writes them to its slot of the work area; the rest of the slot becomes 255. Where a limit is
 // exceeded, the work area is left as it was. Most machines have few values, so the small scratch lists are tried first.
-pub fn build_slot(
-    stepper: Stepper,
-    n: usize,
-    actions: usize,
-    value_limit: usize,
-    row_limit: usize,
-    work: &mut [u8],
-    values: &mut [u64],
-) -> MachineBuilt
-    requires { ⌜ Buildable (now work) stepper n actions «value_limit» «row_limit» (now values) ⌝ }
-    ensures { λ r. ⌜ BuildsTo actions (stepBy actions (now (work .entry)) stepper) (startBy actions (now (work .entry)) stepper) «value_limit» «row_limit» n r (now (work .entry)) (now (work .exit)) ⌝ }
+pub fn build_slot(plan: Plan, work: &mut [u8], values: &mut [u64]) -> MachineBuilt
+    requires { ⌜ Buildable plan (now work) (now values) ⌝ }
+    ensures { λ r. ⌜ PlanTo plan r (now (work .entry)) (now (work .exit)) ⌝ }
 {
-    let plan = Plan {
-        stepper,
-        slot: n,
-        actions,
-        values: value_limit,
-        rows: row_limit,
-    };
-    if value_limit <= 64 {
+    let limits = plan.limits;
+    if limits.values <= 64 {
         return build_small(plan, work, values);
     }
+    let stepper = plan.stepper;
+    let narrow = Limits {
+        values: 64,
+        rows: limits.rows,
+    };
     let few = Plan {
         stepper,
-        slot: n,
-        actions,
-        values: 64,
-        rows: row_limit,
+        slot: plan.slot,
+        actions: plan.actions,
+        limits: narrow,
     };
     let built = build_small(few, work, values);
     match built {

@@ -1,13 +1,7 @@
-// Scratch lists for one machine: some 4 KiB of stack for at most 64 values, and some 38 KiB for at most 1,024. Only their
-// lengths are known.
+// Scratch lists for one machine: 2,304 bytes of stack for at most 64 values, and 36 KiB for at most 1,024. Only their lengths are
+// known.
 ghost use mathlib.Core.Path.{_≡_};
 ghost use lib.ListN.{length};
-
-pub fn room_for_firsts() -> [usize; 64]
-    ensures { λ r. ⌜ length r ≡ 64 ⌝ }
-{
-    [0usize; 64]
-}
 
 pub fn few_links() -> [u16; 64]
     ensures { λ r. ⌜ length r ≡ 64 ⌝ }

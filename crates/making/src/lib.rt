@@ -1,4 +1,6 @@
 // A call with an output and two work areas: the lengths of what it is lent; and the bytes of a table.
+use limits::NUMBERS_LENGTH;
+use limits::WORK_LENGTH;
 use trace::Mode;
 ghost use mathlib.Core.Path.{_≡_};
 ghost use mathlib.Core.List.{_++_};
@@ -15,10 +17,10 @@ pub fn long_enough(least: usize, out: usize, work: usize, values: usize) -> bool
     if out < least {
         return false;
     }
-    if work < 65536 {
+    if work < WORK_LENGTH {
         return false;
     }
-    if values < 1024 {
+    if values < NUMBERS_LENGTH {
         return false;
     }
     true

@@ -5,5 +5,5 @@ use mathlib.Core.List.{List}
 use lib.ListN.{getD}
 
 -- the 16-bit number at i, low byte first; bytes past the end count as 0
-abbrev pub wordAt : List ℕ → ℕ → ℕ
-wordAt bytes i = getD bytes i 0 + 256 * getD bytes (i + 1) 0
+abbrev pub sheetWord : List ℕ → ℕ → ℕ
+sheetWord bytes i = getD bytes i 0 + 256 * getD bytes (i + 1) 0

@@ -4,15 +4,15 @@ use mathlib.Core.Path.{_≡_}
 use mathlib.Core.List.{List}
 use Prim.Native.Nat.{ℕ, _+_, _*_, _%_, _≤_, _<_}
 use lib.ListN.{getD}
-use Rattle.naive.specs.Bytes.{wordAt}
+use Rattle.naive.specs.Bytes.{sheetWord}
 
 -- Where the areas are: no refusal, and the counts and places that the header states, or 1, 2 or 3, with all else 0.
 pub record Located (bytes : List ℕ) (number actions nodes actions-at nodes-at : ℕ) : Type 0 where
   pub refusal : number < 4
   pub few-actions : actions ≤ 16
   pub few-nodes : nodes ≤ 64
-  pub counts : number ≡ 0 → (actions ≡ wordAt bytes 0) × (nodes ≡ wordAt bytes 2)
-  pub places : number ≡ 0 → (actions-at ≡ wordAt bytes 4) × (nodes-at ≡ wordAt bytes 6)
+  pub counts : number ≡ 0 → (actions ≡ sheetWord bytes 0) × (nodes ≡ sheetWord bytes 2)
+  pub places : number ≡ 0 → (actions-at ≡ sheetWord bytes 4) × (nodes-at ≡ sheetWord bytes 6)
   pub none : 0 < number → (actions ≡ 0) × (nodes ≡ 0)
 
 -- The first byte of node n.
@@ -26,7 +26,7 @@ pub record FieldsAt (bytes : List ℕ) (from kind argument a b c : ℕ) : Type 0
   pub parts : (a ≡ getD bytes (from + 2) 0) × (b ≡ getD bytes (from + 3) 0) × (c ≡ getD bytes (from + 4) 0)
 
 -- A refusal of 1 to 7 with its spot and no mode, or none with no spot and a mode.
-pub record Finds (number spot mode : ℕ) : Type 0 where
+pub record FindsRefusal (number spot mode : ℕ) : Type 0 where
   pub refusal : number < 8
   pub node : spot < 64
   pub modes : mode ≤ 2

@@ -2,7 +2,7 @@
 ghost use mathlib.Core.Path.{_≡_};
 ghost use Prim.Native.Nat.{_<_, _%_};
 ghost use lib.ListN.{getD, set};
-ghost use Rattle.naive.specs.Bytes.{wordAt};
+ghost use Rattle.naive.specs.Bytes.{sheetWord};
 
 // A byte as a number.
 fn wide(byte: u8) -> usize
@@ -20,7 +20,7 @@ pub fn at(bytes: &[u8], i: usize) -> usize
 
 // The 16-bit number at i, low byte first.
 pub fn number_at(bytes: &[u8], i: usize) -> usize
-    ensures { λ r. ⌜ (r ≡ wordAt (now (bytes .entry)) i) × (r < 65536) ⌝ }
+    ensures { λ r. ⌜ (r ≡ sheetWord (now (bytes .entry)) i) × (r < 65536) ⌝ }
 {
     if i < bytes.len() {
         at(bytes, i) + 256 * at(bytes, i + 1)

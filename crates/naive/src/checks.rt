@@ -13,7 +13,7 @@ use crate::types::type_of;
 ghost use mathlib.Core.Path.{_≡_};
 ghost use Prim.Native.Nat.{_<_, _≤_};
 ghost use lib.ListN.{length};
-ghost use Rattle.naive.specs.Nodes.{Located, Finds};
+ghost use Rattle.naive.specs.Nodes.{Located, FindsRefusal};
 
 // Whether the areas lie behind the header, inside the total and apart.
 fn apart(laid: Areas, actions_end: usize, nodes_end: usize, total: usize) -> bool {
@@ -139,7 +139,7 @@ fn check_types(
 // That the last node, n, is a policy, or refusal 6.
 fn check_last(n: usize, mode: usize) -> Finding
     requires { ⌜ n < 64 ⌝ }
-    ensures { λ r. ⌜ Finds (r .number) (r .spot) (r .mode) ⌝ }
+    ensures { λ r. ⌜ FindsRefusal (r .number) (r .spot) (r .mode) ⌝ }
 {
     if mode == 0 {
         return refused(6, n);
@@ -154,7 +154,7 @@ fn check_last(n: usize, mode: usize) -> Finding
 // Checks 4 and 5 of all nodes, then 6 and 7 of those that are used, and then that the last node is a policy.
 fn check_nodes(bytes: &[u8], nodes: usize, nodes_at: usize, types: &mut [usize]) -> Finding
     requires { ⌜ nodes ≤ 64 ⌝ }
-    ensures { λ r. ⌜ Finds (r .number) (r .spot) (r .mode) ⌝ }
+    ensures { λ r. ⌜ FindsRefusal (r .number) (r .spot) (r .mode) ⌝ }
 {
     let malformed = check_all_fields(bytes, nodes, nodes_at);
     if 0 < malformed.number {
@@ -178,7 +178,7 @@ fn room_for_types() -> [usize; 64]
 
 // The first refusal of 1 to 7, or the policy's mode.
 pub fn judge(bytes: &[u8]) -> Finding
-    ensures { λ r. ⌜ Finds (r .number) (r .spot) (r .mode) ⌝ }
+    ensures { λ r. ⌜ FindsRefusal (r .number) (r .spot) (r .mode) ⌝ }
 {
     let found = find_areas(bytes);
     if 0 < found.number {

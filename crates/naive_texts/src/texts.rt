@@ -5,7 +5,7 @@ use crate::words::read_words;
 ghost use mathlib.Core.Path.{_≡_};
 ghost use Prim.Native.Nat.{_≤_};
 ghost use lib.ListN.{length};
-ghost use Rattle.naive_texts.specs.Answers.{Answers};
+ghost use Rattle.naive_texts.specs.Answers.{AnswersText};
 
 // A refusal.
 fn refused(number: usize, spot: usize) -> Answer
@@ -29,7 +29,7 @@ fn room_for_nodes() -> [u8; 192]
 // Reads a text that is not too long, with a number of actions that is in its range.
 fn read_short(text: &[u8], actions: &[u8], listed: usize, sheet: &mut [u8]) -> Answer
     requires { ⌜ (length (now text) ≤ 1024) × (listed ≤ 16) ⌝ }
-    ensures { λ r. ⌜ Answers (now (sheet .entry)) (now (sheet .exit)) (r .number) (r .value) (r .actions) (r .nodes) ⌝ }
+    ensures { λ r. ⌜ AnswersText (now (sheet .entry)) (now (sheet .exit)) (r .number) (r .value) (r .actions) (r .nodes) ⌝ }
 {
     let mut nodes = room_for_nodes();
     let read = read_words(text, &mut nodes);
@@ -50,7 +50,7 @@ fn read_short(text: &[u8], actions: &[u8], listed: usize, sheet: &mut [u8]) -> A
 
 // Reads a text into a sheet, with the actions, which have two bytes each.
 pub fn read_text(text: &[u8], actions: &[u8], sheet: &mut [u8]) -> Answer
-    ensures { λ r. ⌜ Answers (now (sheet .entry)) (now (sheet .exit)) (r .number) (r .value) (r .actions) (r .nodes) ⌝ }
+    ensures { λ r. ⌜ AnswersText (now (sheet .entry)) (now (sheet .exit)) (r .number) (r .value) (r .actions) (r .nodes) ⌝ }
 {
     let listed = actions.len() / 2;
     if sheet.len() < 362 {

@@ -9,7 +9,7 @@ use Rattle.policy.specs.declared.Bound.{Bound}
 use Rattle.policy.specs.declared.Typing.the-variants.{Typed}
 use Rattle.policy.specs.Parts.{AllParts}
 use Rattle.policy.specs.Rule.{Rule, onParts, ruleOf}
-use Rattle.policy.specs.Typing.{typeOf}
+use Rattle.policy.specs.Typing.{policyType}
 use Rattle.syntax.specs.Nodes.{propositionsOf}
 use Rattle.syntax.specs.Types.{typeAt}
 use Rattle.syntax.specs.Meaning.{nodePolicy}
@@ -20,7 +20,7 @@ use Rattle.syntax.specs.declared.Sheet.{Sheet}
 use Rattle.syntax.specs.declared.TypedNode.{TypedNode}
 use Rattle.typing.proofs.Meanings.{policy-of}
 use Rattle.syntax.proofs.NodeTypes.{PolicyBefore}
-use Rattle.rules.specs.Codes.{CountFits}
+use Rattle.rules.specs.Codes.{CountInRange}
 use Rattle.rules.specs.Rules.{ruleOver, ruleAt, EarlierRule}
 use Rattle.rules.specs.declared.Lowered.the-variants.{AsRule}
 use Rattle.rules.specs.declared.NodeRule.{NodeRule}
@@ -32,10 +32,10 @@ use Rattle.node_rules.proofs.NodeRules.{rule-typed, policy-right}
 
 -- A policy node has its type, is the policy of its rule over earlier policy nodes, and a count from 1 to 60.
 pub record NodeFacts (sheet : Sheet) (types : List TypedNode) (n : ℕ) (mode : Mode) (bound : Bound) : Type 0 where
-  pub type : typeOf (nodePolicy sheet n) ≡ Typed mode bound
+  pub type : policyType (nodePolicy sheet n) ≡ Typed mode bound
   pub rule : onParts (nodePolicy sheet) (nodeRule sheet n) ≡ ruleOf (propositionsOf sheet) (nodePolicy sheet n)
   pub parts : AllParts (PolicyBefore (typeAt types) n) (nodeRule sheet n)
-  pub count : CountFits (nodeRule sheet n)
+  pub count : CountInRange (nodeRule sheet n)
 
 -- A node that is a rule is a policy, and used, and the rule says the same as the node's own, over earlier rules.
 pub record RuleFacts (sheet : Sheet) (types : List TypedNode) (n : ℕ) (code : NodeRule) : Type 0 where
@@ -44,7 +44,7 @@ pub record RuleFacts (sheet : Sheet) (types : List TypedNode) (n : ℕ) (code : 
   pub is : typeAt types n ≡ Policy mode bound
   pub same : SameRule (sheet .actions) (nodeRule sheet n) (ruleOver code)
   pub parts : AllParts (EarlierRule (sheetRules sheet types) n) (ruleOver code)
-  pub count : CountFits (ruleOver code)
+  pub count : CountInRange (ruleOver code)
 
 -- rules that say the same have the same parts and the same count
 same-parts : (Q : ℕ → Type 0) {actions : ℕ} {r s : Rule ℕ} → SameRule actions r s → AllParts Q s → AllParts Q r
@@ -52,7 +52,7 @@ same-parts Q (opens h g e) q = tt
 same-parts Q (filters h g e p) q = q
 same-parts Q (equal r) q = q
 
-same-count : {actions : ℕ} {r s : Rule ℕ} → SameRule actions r s → CountFits s → CountFits r
+same-count : {actions : ℕ} {r s : Rule ℕ} → SameRule actions r s → CountInRange s → CountInRange r
 same-count (opens h g e) c = tt
 same-count (filters h g e p) c = tt
 same-count (equal r) c = c

@@ -1,3 +1,4 @@
+pub mod RulesOver
 pub mod Facts
 pub mod FormulaSets
 pub mod NodeRules

@@ -17,8 +17,8 @@ use Rattle.policy.specs.declared.Typing.the-variants.{Typed, Untyped}
 use Rattle.policy.specs.Formula.{always-false, holds}
 use Rattle.policy.specs.Parts.{AllParts}
 use Rattle.policy.specs.Policy.{Policy as APolicy}
-use Rattle.policy.specs.Rule.{Rule, opening, onParts, onWatched, ruleOf}
-use Rattle.policy.specs.Typing.{typeOf, alikeTyped}
+use Rattle.policy.specs.Rule.{Rule, opening-r, onParts, onWatched, ruleOf}
+use Rattle.policy.specs.Typing.{policyType, alikeTyped}
 use Rattle.syntax.specs.Nodes.{nodeOf, propositionsOf}
 use Rattle.syntax.specs.Formed.{ArgumentFits}
 use Rattle.syntax.specs.Types.{typeAt, typingOf, boundFits, found, typeNode}
@@ -34,12 +34,12 @@ use Rattle.syntax.specs.declared.TypedNode.{TypedNode}
 use Rattle.typing.proofs.Meanings.{nodeMeaning, meaning-of, meaning-stays, node-parts, agrees, policy-of}
 use Rattle.typing.proofs.Sound.{typed-policy, typed-fits}
 use Rattle.syntax.proofs.NodeTypes.{EachPart, FormulaBefore, PolicyBefore, unfit}
-use Rattle.rules.specs.Codes.{CountFits}
+use Rattle.rules.specs.Codes.{CountInRange}
 use Rattle.rules.specs.Rules.{ruleOver, ruleAt}
 use Rattle.rules.specs.declared.Lowered.{Lowered}
 use Rattle.rules.specs.declared.Lowered.the-variants.{AsRule, NoRule}
 use Rattle.rules.specs.declared.NodeRule.{NodeRule}
-use Rattle.rules.specs.declared.NodeRule.the-variants.{Opening, Counting, Same, Both, Either, Copied, Until, Then, Timed, Filtered}
+use Rattle.rules.specs.declared.NodeRule.the-variants as coded
 use Rattle.rules.specs.declared.RuleAt.{RuleAt}
 use Rattle.node_rules.specs.Nodes.{satisfiedBy, ruleBy, nodeRule}
 use Rattle.node_rules.specs.FormulaSets.{satisfying, setsOf}
@@ -81,7 +81,7 @@ module _ (sheet : Sheet) (Q : ℕ → Type 0) where
     pub over : onParts (nodePolicy sheet) rule ≡ means
     pub same : SameRule (sheet .actions) rule (ruleOver code)
     pub parts : AllParts Q (ruleOver code)
-    pub count : CountFits (ruleOver code)
+    pub count : CountInRange (ruleOver code)
 
   -- what a node of this meaning is lowered to
   abbrev LoweredFor : Meaning → Rule ℕ → Lowered → Type 0
@@ -97,7 +97,7 @@ module _ (sheet : Sheet) (Q : ℕ → Type 0) where
   abbrev Plain : NodeRule → Type 0
   Plain code = RightRule (ruleOver code) (onParts (nodePolicy sheet) (ruleOver code)) (AsRule code)
 
-  plain : (code : NodeRule) → AllParts Q (ruleOver code) → CountFits (ruleOver code) → Plain code
+  plain : (code : NodeRule) → AllParts Q (ruleOver code) → CountInRange (ruleOver code) → Plain code
   plain code parts count = record { code = code; is = refl; over = refl; same = equal (ruleOver code); parts = parts; count = count }
 
   -- And and Or go by the mode of their parts
@@ -107,8 +107,8 @@ module _ (sheet : Sheet) (Q : ℕ → Type 0) where
   by-mode Watched k r s p q = p
   by-mode Enforced k r s p q = q
 
-  opened : (hit : ℕ → Bool) (s : ℕ) → ((x : ℕ) → x < sheet .actions → bit s x ≡ hit x) → RightRule (opening hit) (opening hit) (AsRule (Opening s))
-  opened hit s r = record { code = Opening s; is = refl; over = refl; same = opens _ _ (λ x h. sym (r x h)); parts = tt; count = tt }
+  opened : (hit : ℕ → Bool) (s : ℕ) → ((x : ℕ) → x < sheet .actions → bit s x ≡ hit x) → RightRule (opening-r hit) (opening-r hit) (AsRule (coded.Opening s))
+  opened hit s r = record { code = coded.Opening s; is = refl; over = refl; same = opens _ _ (λ x h. sym (r x h)); parts = tt; count = tt }
 
   module _ {mode : Mode} (types : List TypedNode) (sound : SoundSheet mode sheet types) (n : ℕ) (below : n < sheet .count)
       (part : (i : ℕ) → PolicyBefore (typeAt types) n i → Q i) where
@@ -133,7 +133,7 @@ module _ (sheet : Sheet) (Q : ℕ → Type 0) where
         ap (λ (s : ℕ). bit s x) (ap (othersBelow (sheet .actions)) (right i p) ∙ set-others (satisfiedBy sheet i) (sheet .actions) (sound .formed .few-actions))
         ∙ in-set (λ y. not (satisfiedBy sheet i y)) (sheet .actions) x h
 
-    typed : (i : ℕ) (p : PolicyBefore (typeAt types) n i) → typeOf (nodePolicy sheet i) ≡ Typed (p .mode) (p .bound)
+    typed : (i : ℕ) (p : PolicyBefore (typeAt types) n i) → policyType (nodePolicy sheet i) ≡ Typed (p .mode) (p .bound)
     typed i p = policy-of sheet types sound i (omega (arith, p .before)) (p .is)
 
     -- And and Or of mode m: so is their first part
@@ -154,27 +154,27 @@ module _ (sheet : Sheet) (Q : ℕ → Type 0) where
     lowered-right m k (Now a) h g e = rw (means a (h .before)) (opened (satisfiedBy sheet a) (set a) (hits a h))
     lowered-right m k (Holds a) h g e =
         rw (means a (h .before)) (opened (λ x. not (satisfiedBy sheet a x)) (othersBelow (sheet .actions) (set a)) (misses a h))
-    lowered-right m l (Count k) h g e = plain (Counting k) tt g
-    lowered-right m k (Not a) h g e = rw (means a (h .before)) (plain (Same a) (part a h) tt)
+    lowered-right m l (Count k) h g e = plain (coded.Count k) tt g
+    lowered-right m k (Not a) h g e = rw (means a (h .before)) (plain (coded.Same a) (part a h) tt)
     lowered-right m k (And a b) h g e =
         let q : Q a × Q b = (part a (h .0), part b (h .1)) in
         rw (means a (h .0 .before), means b (h .1 .before), typed a (h .0), ← part-mode m k a b (h .0) (h .1) e)
-        (by-mode (h .0 .mode) (h .0 .bound) (Both a b) (Either a b) (plain (Both a b) q tt) (plain (Either a b) q tt))
+        (by-mode (h .0 .mode) (h .0 .bound) (coded.Both a b) (coded.Either a b) (plain (coded.Both a b) q tt) (plain (coded.Either a b) q tt))
     lowered-right m k (Or a b) h g e =
         let q : Q a × Q b = (part a (h .0), part b (h .1)) in
         rw (means a (h .0 .before), means b (h .1 .before), typed a (h .0), ← part-mode m k a b (h .0) (h .1) e)
-        (by-mode (h .0 .mode) (h .0 .bound) (Either a b) (Both a b) (plain (Either a b) q tt) (plain (Both a b) q tt))
-    lowered-right m k (Eventually a) h g e = rw (means a (h .before)) (plain (Copied a) (part a h) tt)
-    lowered-right m k (Always a) h g e = rw (means a (h .before)) (plain (Copied a) (part a h) tt)
-    lowered-right m k (BeforeMinus a b) h g e = rw (means a (h .0 .before), means b (h .1 .before)) (plain (Until a b) (part a (h .0), part b (h .1)) tt)
-    lowered-right m k (BeforePlus a b) h g e = rw (means a (h .0 .before), means b (h .1 .before)) (plain (Until a b) (part a (h .0), part b (h .1)) tt)
-    lowered-right m k (AfterMinus a b) h g e = rw (means a (h .0 .before), means b (h .1 .before)) (plain (Then a b) (part a (h .0), part b (h .1)) tt)
-    lowered-right m k (AfterPlus a b) h g e = rw (means a (h .0 .before), means b (h .1 .before)) (plain (Then a b) (part a (h .0), part b (h .1)) tt)
+        (by-mode (h .0 .mode) (h .0 .bound) (coded.Either a b) (coded.Both a b) (plain (coded.Either a b) q tt) (plain (coded.Both a b) q tt))
+    lowered-right m k (Eventually a) h g e = rw (means a (h .before)) (plain (coded.Copied a) (part a h) tt)
+    lowered-right m k (Always a) h g e = rw (means a (h .before)) (plain (coded.Copied a) (part a h) tt)
+    lowered-right m k (BeforeMinus a b) h g e = rw (means a (h .0 .before), means b (h .1 .before)) (plain (coded.Before a b) (part a (h .0), part b (h .1)) tt)
+    lowered-right m k (BeforePlus a b) h g e = rw (means a (h .0 .before), means b (h .1 .before)) (plain (coded.Before a b) (part a (h .0), part b (h .1)) tt)
+    lowered-right m k (AfterMinus a b) h g e = rw (means a (h .0 .before), means b (h .1 .before)) (plain (coded.After a b) (part a (h .0), part b (h .1)) tt)
+    lowered-right m k (AfterPlus a b) h g e = rw (means a (h .0 .before), means b (h .1 .before)) (plain (coded.After a b) (part a (h .0), part b (h .1)) tt)
     lowered-right m l (Fulfilling k a b c) h g e =
-        rw (means a (h .0 .before), means b (h .1 .before), means c (h .2 .before)) (plain (Timed k a b c) (part a (h .0), part b (h .1), part c (h .2)) g)
+        rw (means a (h .0 .before), means b (h .1 .before), means c (h .2 .before)) (plain (coded.Fulfilling k a b c) (part a (h .0), part b (h .1), part c (h .2)) g)
     lowered-right m k (Ignoring a b) h g e =
         rw (means a (h .0 .before), means b (h .1 .before))
-        (record { code = Filtered (set a) b; is = refl; over = refl; same = filters _ _ (λ x l. sym (hits a (h .0) x l)) b; parts = part b (h .1); count = tt })
+        (record { code = coded.Ignoring (set a) b; is = refl; over = refl; same = filters _ _ (λ x l. sym (hits a (h .0) x l)) b; parts = part b (h .1); count = tt })
 
     node-right : {m : Mode} {k : Bound} → typeAt types n ≡ Policy m k → LoweredFor (nodeMeaning sheet n) (nodeRule sheet n) (ruleAt (sheetRules sheet types) n)
     node-right e =

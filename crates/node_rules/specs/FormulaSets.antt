@@ -1,4 +1,4 @@
--- The sets of a sheet's used formulas: for each, the actions of the sheet that satisfy it. What is built behind them knows no more of a formula.
+-- The sets of a sheet's used formulas: for each, the actions of the sheet that satisfy it. What is built after them knows no more of a formula.
 -- Assumes nothing.
 use mathlib.Core.Path.{_≡_}
 use mathlib.Core.Bool.{true}
@@ -11,7 +11,6 @@ use Rattle.base.specs.Sets.{bit, setBelow, everyBelow, othersBelow}
 use Rattle.policy.specs.Formula.{holds}
 use Rattle.syntax.specs.Nodes.{propositionsOf}
 use Rattle.syntax.specs.Types.{typeAt}
-use Rattle.syntax.specs.declared.ListedNode.{ListedNode}
 use Rattle.syntax.specs.declared.Node.{Node}
 use Rattle.syntax.specs.declared.Node.the-variants.{True, False, Proposition, Negation, Conjunction, Disjunction, Now, Holds, Count, Not, And, Or, Eventually, Always, BeforeMinus, BeforePlus, AfterMinus, AfterPlus, Fulfilling, Ignoring}
 use Rattle.syntax.specs.declared.NodeType.{NodeType}
@@ -36,10 +35,6 @@ abbrev pub ofFormula : NodeType → ℕ → ℕ
 ofFormula Unused set = 0
 ofFormula Formula set = set
 ofFormula (Policy m k) set = 0
-
--- A sheet by its fields.
-abbrev pub sheetOf : (actions : ℕ) (propositions : List ℕ) (count : ℕ) (nodes : List ListedNode) → Sheet
-sheetOf actions propositions count nodes = record { actions = actions; propositions = propositions; count = count; nodes = nodes }
 
 -- The sets of the first n nodes, and of all; behind them, empty ones.
 abbrev pub firstSets : Sheet → List TypedNode → ℕ → List ℕ

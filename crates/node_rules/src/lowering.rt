@@ -38,7 +38,7 @@ fn lower(node: Node, mode: Mode, actions: usize, sets: &[u16; 64]) -> Lowered
         Node::Disjunction(_, _) => Lowered::NoRule,
         Node::Now(a) => Lowered::AsRule(NodeRule::Opening(set_at(sets, a))),
         Node::Holds(a) => Lowered::AsRule(NodeRule::Opening(others(actions, set_at(sets, a)))),
-        Node::Count(k) => Lowered::AsRule(NodeRule::Counting(k)),
+        Node::Count(k) => Lowered::AsRule(NodeRule::Count(k)),
         Node::Not(a) => Lowered::AsRule(NodeRule::Same(a)),
         Node::And(a, b) => Lowered::AsRule(by_mode(
             mode,
@@ -52,12 +52,12 @@ fn lower(node: Node, mode: Mode, actions: usize, sets: &[u16; 64]) -> Lowered
         )),
         Node::Eventually(a) => Lowered::AsRule(NodeRule::Copied(a)),
         Node::Always(a) => Lowered::AsRule(NodeRule::Copied(a)),
-        Node::BeforeMinus(a, b) => Lowered::AsRule(NodeRule::Until(a, b)),
-        Node::BeforePlus(a, b) => Lowered::AsRule(NodeRule::Until(a, b)),
-        Node::AfterMinus(a, b) => Lowered::AsRule(NodeRule::Then(a, b)),
-        Node::AfterPlus(a, b) => Lowered::AsRule(NodeRule::Then(a, b)),
-        Node::Fulfilling(k, a, b, c) => Lowered::AsRule(NodeRule::Timed(k, a, b, c)),
-        Node::Ignoring(a, b) => Lowered::AsRule(NodeRule::Filtered(set_at(sets, a), b)),
+        Node::BeforeMinus(a, b) => Lowered::AsRule(NodeRule::Before(a, b)),
+        Node::BeforePlus(a, b) => Lowered::AsRule(NodeRule::Before(a, b)),
+        Node::AfterMinus(a, b) => Lowered::AsRule(NodeRule::After(a, b)),
+        Node::AfterPlus(a, b) => Lowered::AsRule(NodeRule::After(a, b)),
+        Node::Fulfilling(k, a, b, c) => Lowered::AsRule(NodeRule::Fulfilling(k, a, b, c)),
+        Node::Ignoring(a, b) => Lowered::AsRule(NodeRule::Ignoring(set_at(sets, a), b)),
     }
 }
 

@@ -9,8 +9,9 @@ ghost use lib.ListN.{length};
 ghost use Rattle.base.specs.Sets.{everyBelow, othersBelow};
 ghost use Rattle.trace.specs.declared.Mode.{Mode};
 ghost use Rattle.syntax.specs.Formed.{ArgumentFits};
+ghost use Rattle.syntax.specs.Nodes.{sheetOf};
 ghost use Rattle.typing.specs.Typed.{SoundSheet};
-ghost use Rattle.node_rules.specs.FormulaSets.{propositionSet, setFrom, sheetOf, setsOf};
+ghost use Rattle.node_rules.specs.FormulaSets.{propositionSet, setFrom, setsOf};
 ghost use Rattle.node_rules.specs.Lowering.{setAt};
 
 // The set of one action.

@@ -10,7 +10,7 @@ use lib.ListN.{length, getD, take, drop, replicate, length-append, length-take, 
 use lib.Seq.{length-take-le, take-at, drop-at, getD-append-add, getD-take, getD-drop, ext-getD}
 use Rattle.base.specs.Word.{wordAt}
 use Rattle.table.specs.Table.{WellFormed, tableLength, frontTable}
-use Rattle.places.specs.Layout.{placeCount, placeLength, startOf, Whole, Within, placeBytes, storedAt, withBytes}
+use Rattle.places.specs.Layout.{placeCount, placeLength, startOf, LongEnough, Within, placeBytes, storedAt, withBytes}
 
 -- a place's bytes as the code cuts them out, all there where the area is long enough
 pub part-is : (place : ℕ) (area : List ℕ) (from : ℕ) → from ≡ startOf place → take (from + placeLength - from) (drop from area) ≡ placeBytes area place
@@ -25,7 +25,7 @@ part-long area place h = length-take-le placeLength (drop (startOf place) area) 
 getD-past : (xs ys : List ℕ) (k d : ℕ) → length xs ≤ k → getD (xs ++ ys) k d ≡ getD ys (k - length xs) d
 getD-past xs ys k d h = ap (λ (n : ℕ). getD (xs ++ ys) n d) (sym (add-sub-of-le h)) ∙ getD-append-add xs ys (k - length xs) d
 
-module _ (area : List ℕ) (i : ℕ) (bytes : List ℕ) (whole : Whole area) (low : i < placeCount) (short : length bytes ≤ placeLength) where
+module _ (area : List ℕ) (i : ℕ) (bytes : List ℕ) (whole : LongEnough area) (low : i < placeCount) (short : length bytes ≤ placeLength) where
   -- a place's bytes, padded up with zeros
   abbrev padded : List ℕ
   padded = bytes ++ replicate (placeLength - length bytes) 0
@@ -95,7 +95,7 @@ length-of-table table behind f = ap (λ (n : ℕ). 8 + n) (ap₂ (λ (m n : ℕ)
         (List·getD-append table behind 0 (k + 1) (omega (arith, f .header .long)))
 
 -- a table put at a place stands there
-pub stored-with-bytes : (area : List ℕ) (i : ℕ) (table : List ℕ) → Whole area → i < placeCount → WellFormed table → storedAt (withBytes area i table) i ≡ table
+pub stored-with-bytes : (area : List ℕ) (i : ℕ) (table : List ℕ) → LongEnough area → i < placeCount → WellFormed table → storedAt (withBytes area i table) i ≡ table
 stored-with-bytes area i table whole low f =
     ap frontTable (place-with-bytes area i table whole low (fits-place table f))
     ∙ take-at table (replicate (placeLength - length table) 0) (tableLength (table ++ replicate (placeLength - length table) 0)) (sym (length-of-table table (replicate (placeLength - length table) 0) f))

@@ -3,25 +3,25 @@
 use mathlib.Core.List.{List, _++_}
 use Prim.Native.Nat.{ℕ, _+_, _*_, _-_, _≤_, _<_}
 use lib.ListN.{length, take, drop, replicate}
-use Rattle.table.specs.Table.{frontTable}
+use Rattle.table.specs.Table.{largestTable, frontTable}
 
--- How many places a board has, how long the part of a place is, and so the area.
+-- How many places a board has, how long the part of a place is, the length of the largest table, and so the area.
 abbrev pub placeCount : ℕ
 placeCount = 8
 
 abbrev pub placeLength : ℕ
-placeLength = 1032
+placeLength = largestTable
 
 abbrev pub areaLength : ℕ
 areaLength = placeCount * placeLength
 
 -- The area is long enough.
-abbrev pub Whole : List ℕ → Type 0
-Whole area = areaLength ≤ length area
+abbrev pub LongEnough : List ℕ → Type 0
+LongEnough area = areaLength ≤ length area
 
 -- A place in an area that is long enough.
 pub record Within (area : List ℕ) (place : ℕ) : Type 0 where
-  pub whole : Whole area
+  pub whole : LongEnough area
   pub below : place < placeCount
 
 -- Where the part of place i starts, its bytes, and the table at their front.

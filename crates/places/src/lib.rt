@@ -10,11 +10,12 @@ pub use cases::from_places;
 pub use cases::taken;
 pub use cases::with_case;
 pub use cases::with_places;
+use table::LARGEST_TABLE;
 
-// How many places a board has, how long the part of a place in the area is, and so the area.
+// How many places a board has, how long the part of a place in the area is, which is the length of the largest table, and so the area.
 pub const PLACES: usize = 8;
 
-pub const PLACE_LENGTH: usize = 1032;
+pub const PLACE_LENGTH: usize = LARGEST_TABLE;
 
 pub const AREA_LENGTH: usize = PLACES * PLACE_LENGTH;
 

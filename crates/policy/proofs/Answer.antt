@@ -5,7 +5,7 @@ use mathlib.Core.Bool.{Bool, true, false}
 use mathlib.Core.List.{List, [], _∷_}
 use Prim.Native.Nat.{ℕ}
 use Rattle.trace.specs.Trace.{Move, trip, go, Step, after, run, tripped}
-use Rattle.policy.specs.Words.{Property}
+use Rattle.policy.specs.Operators.{Property}
 use Rattle.policy.specs.Value.{Part, rowOf, goWith}
 use Rattle.policy.specs.Closed.{answer}
 

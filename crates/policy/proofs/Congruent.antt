@@ -8,8 +8,8 @@ use Prim.Native.Nat.{ℕ, zero, suc}
 use lib.Dec.{leb}
 use lib.ListN.{take, drop}
 use Rattle.trace.specs.Trace.{Sequence}
-use Rattle.policy.specs.Words.{Property, someSuffix, one-more, first, upTo, following, without}
-use Rattle.policy.specs.Rule.{Rule, opening, counting, same, both, either, copied, until, then, timed, filtered, onParts, lateTrips, timedTrips, ruleTrips}
+use Rattle.policy.specs.Operators.{Property, someSuffix, one-more, first, upTo, following, without}
+use Rattle.policy.specs.Rule.{Rule, opening-r, count-r, same-r, both-r, either-r, copied-r, before-r, after-r, fulfilling-r, ignoring-r, onParts, lateTrips, fulfillingTrips, ruleTrips}
 use Rattle.policy.specs.Parts.{AllParts}
 use Rattle.policy.specs.Agree.{Agree}
 
@@ -20,12 +20,12 @@ module _ (actions : ℕ) where
   sequence-take (suc n) [] s = tt
   sequence-take (suc n) (a ∷ w) s = (s .0, sequence-take n w (s .1))
 
-  pub sequence-drop : (n : ℕ) (w : List ℕ) → Sequence actions w → Sequence actions (drop n w)
+  sequence-drop : (n : ℕ) (w : List ℕ) → Sequence actions w → Sequence actions (drop n w)
   sequence-drop zero w s = s
   sequence-drop (suc n) [] s = tt
   sequence-drop (suc n) (a ∷ w) s = sequence-drop n w (s .1)
 
-  pub sequence-without : (hit : ℕ → Bool) (w : List ℕ) → Sequence actions w → Sequence actions (without hit w)
+  sequence-without : (hit : ℕ → Bool) (w : List ℕ) → Sequence actions w → Sequence actions (without hit w)
   sequence-without hit [] s = tt
   sequence-without hit (a ∷ w) s = kept (hit a) (sequence-without hit w (s .1))
     where
@@ -37,7 +37,7 @@ module _ (actions : ℕ) where
   sequence-up-to none w s = s
   sequence-up-to (some n) w s = sequence-take n w s
 
-  -- each word
+  -- each operator
   some-suffix-agree : (P Q : Property) → Agree actions P Q → Agree actions (someSuffix P) (someSuffix Q)
   some-suffix-agree P Q h [] s = h [] s
   some-suffix-agree P Q h (a ∷ w) s = ap₂ (λ (b c : Bool). b || c) (h (a ∷ w) s) (some-suffix-agree P Q h w (s .1))
@@ -55,24 +55,24 @@ module _ (actions : ℕ) where
   late-agree : (k : ℕ) (P Q : Property) → Agree actions P Q → Agree actions (lateTrips k P) (lateTrips k Q)
   late-agree k P Q h w s = rw (h (drop k w) (sequence-drop k w s)) refl
 
-  timed-agree : (k : ℕ) (r : Option ℕ) (P Q R S : Property) → Agree actions P Q → Agree actions R S
-      → Agree actions (timedTrips k r P R) (timedTrips k r Q S)
-  timed-agree k none P Q R S g h w s = late-agree k R S h w s
-  timed-agree k (some n) P Q R S g h w s = ap₂ (cond (leb n k)) (g (drop n w) (sequence-drop n w s)) (late-agree k R S h w s)
+  fulfilling-agree : (k : ℕ) (r : Option ℕ) (P Q R S : Property) → Agree actions P Q → Agree actions R S
+      → Agree actions (fulfillingTrips k r P R) (fulfillingTrips k r Q S)
+  fulfilling-agree k none P Q R S g h w s = late-agree k R S h w s
+  fulfilling-agree k (some n) P Q R S g h w s = ap₂ (cond (leb n k)) (g (drop n w) (sequence-drop n w s)) (late-agree k R S h w s)
 
   module _ {P : Type 0} (T U : P → Property) where
     pub rule-congruent : (rule : Rule P) → AllParts (λ a. Agree actions (T a) (U a)) rule
         → Agree actions (ruleTrips (onParts T rule)) (ruleTrips (onParts U rule))
-    rule-congruent (opening hit) h w s = refl
-    rule-congruent (counting k) h w s = refl
-    rule-congruent (same a) h w s = h w s
-    rule-congruent (both a b) h w s = ap₂ (λ (b c : Bool). b && c) (h .0 w s) (h .1 w s)
-    rule-congruent (either a b) h w s = ap₂ (λ (b c : Bool). b || c) (h .0 w s) (h .1 w s)
-    rule-congruent (copied a) h w s = some-suffix-agree (T a) (U a) h w s
-    rule-congruent (until a b) h w s =
+    rule-congruent (opening-r hit) h w s = refl
+    rule-congruent (count-r k) h w s = refl
+    rule-congruent (same-r a) h w s = h w s
+    rule-congruent (both-r a b) h w s = ap₂ (λ (b c : Bool). b && c) (h .0 w s) (h .1 w s)
+    rule-congruent (either-r a b) h w s = ap₂ (λ (b c : Bool). b || c) (h .0 w s) (h .1 w s)
+    rule-congruent (copied-r a) h w s = some-suffix-agree (T a) (U a) h w s
+    rule-congruent (before-r a b) h w s =
         rw (first-agree w (T a) (U a) (h .0) s) (h .1 (upTo (first (U a) w) w) (sequence-up-to (first (U a) w) w s))
-    rule-congruent (then a b) h w s =
+    rule-congruent (after-r a b) h w s =
         rw (first-agree w (T a) (U a) (h .0) s) (following-agree (first (U a) w) (T b) (U b) (h .1) w s)
-    rule-congruent (timed k a b c) h w s =
-        rw (first-agree w (T a) (U a) (h .0) s) (timed-agree k (first (U a) w) (T b) (U b) (T c) (U c) (h .1) (h .2) w s)
-    rule-congruent (filtered hit a) h w s = h (without hit w) (sequence-without hit w s)
+    rule-congruent (fulfilling-r k a b c) h w s =
+        rw (first-agree w (T a) (U a) (h .0) s) (fulfilling-agree k (first (U a) w) (T b) (U b) (T c) (U c) (h .1) (h .2) w s)
+    rule-congruent (ignoring-r hit a) h w s = h (without hit w) (sequence-without hit w s)

@@ -12,27 +12,27 @@ use Rattle.base.specs.Sets.{bit}
 use Rattle.base.proofs.Bits.{bit-empty, bits-below}
 use Rattle.trace.specs.Trace.{Move, trip, go, Step, after, run, tripped}
 use Rattle.trace.proofs.Laws.{not-both, run-append}
-use Rattle.policy.specs.Words.{someSuffix}
-use Rattle.policy.specs.Rule.{copied}
-use Rattle.policy.specs.Value.{Part, partTrips, placeOf, rowOf, insert, copiesOf, join, moveBelow}
+use Rattle.policy.specs.Operators.{someSuffix}
+use Rattle.policy.specs.Rule.{copied-r}
+use Rattle.policy.specs.Value.{Part, partTrips, partAfter, rowOf, insert, copiesOf, withCopy, moveBelow}
 use Rattle.policy.specs.Closed.{Below, Closed, answer}
-use Rattle.policy.specs.Right.{Right}
+use Rattle.policy.specs.Right.{RightStep}
 use Rattle.policy.proofs.Lasting.{part-lasting, rule-lasting}
 use Rattle.policy.proofs.Sets.{bit-insert, insert-self, insert-comm}
 
 -- a copy joined to the others' answer: every row is kept
-join-answer : (m : Move ℕ) (b : Bool) (set : ℕ) → join m (answer b set) ≡ answer (tripped m || b) (insert (rowOf m) set)
+join-answer : (m : Move ℕ) (b : Bool) (set : ℕ) → withCopy m (answer b set) ≡ answer (tripped m || b) (insert (rowOf m) set)
 join-answer trip b set = refl
 join-answer (go r) true set = refl
 join-answer (go r) false set = refl
 
 -- joining a copy twice is joining it once, and the order is free
-join-self : (m n : Move ℕ) → join m (join m n) ≡ join m n
+join-self : (m n : Move ℕ) → withCopy m (withCopy m n) ≡ withCopy m n
 join-self trip n = refl
 join-self (go r) trip = refl
 join-self (go r) (go set) = ap go (insert-self r set)
 
-join-comm : (l m n : Move ℕ) → join l (join m n) ≡ join m (join l n)
+join-comm : (l m n : Move ℕ) → withCopy l (withCopy m n) ≡ withCopy m (withCopy l n)
 join-comm trip trip n = refl
 join-comm trip (go r) n = refl
 join-comm (go q) trip n = refl
@@ -50,32 +50,32 @@ module _ (f : Part) (a : ℕ) where
   move-above r set (suc n) h =
       rw (bit-insert r set n, ne-eqb n r (omega arith), move-above r set n (omega arith)) refl
 
-  pub move-insert : (r set n : ℕ) → r < n → moveBelow f (insert r set) a n ≡ join (f r a) (moveBelow f set a n)
+  pub move-insert : (r set n : ℕ) → r < n → moveBelow f (insert r set) a n ≡ withCopy (f r a) (moveBelow f set a n)
   move-insert r set zero h = absurd (omega arith)
   move-insert r set (suc n) h = elim (ℕ-discrete n r) [ yes p ↦ here p | no q ↦ below q (move-insert r set n) ]
     where
-      twice : (b : Bool) (m n : Move ℕ) → join m n ≡ join m (cond b (join m n) n)
+      twice : (b : Bool) (m n : Move ℕ) → withCopy m n ≡ withCopy m (cond b (withCopy m n) n)
       twice true m n = sym (join-self m n)
       twice false m n = refl
 
-      swap : (b : Bool) (l m n : Move ℕ) → cond b (join l (join m n)) (join m n) ≡ join m (cond b (join l n) n)
+      swap : (b : Bool) (l m n : Move ℕ) → cond b (withCopy l (withCopy m n)) (withCopy m n) ≡ withCopy m (cond b (withCopy l n) n)
       swap true l m n = join-comm l m n
       swap false l m n = refl
 
-      here : n ≡ r → moveBelow f (insert r set) a (suc n) ≡ join (f r a) (moveBelow f set a (suc n))
+      here : n ≡ r → moveBelow f (insert r set) a (suc n) ≡ withCopy (f r a) (moveBelow f set a (suc n))
       here p =
           rw (bit-insert r set n, eq-eqb n r p, move-above r set n (omega arith))
           (rw p (twice (bit set r) (f r a) (moveBelow f set a r)))
 
-      below : (n ≡ r → ⊥) → (r < n → moveBelow f (insert r set) a n ≡ join (f r a) (moveBelow f set a n))
-          → moveBelow f (insert r set) a (suc n) ≡ join (f r a) (moveBelow f set a (suc n))
+      below : (n ≡ r → ⊥) → (r < n → moveBelow f (insert r set) a n ≡ withCopy (f r a) (moveBelow f set a n))
+          → moveBelow f (insert r set) a (suc n) ≡ withCopy (f r a) (moveBelow f set a (suc n))
       below q ih =
           rw (bit-insert r set n, ne-eqb n r q, ih (omega arith)) (swap (bit set n) (f n a) (f r a) (moveBelow f set a n))
 
 -- the moves of the copies, each joined to those begun later
 abbrev joined : Part → ℕ → List ℕ → Move ℕ
-joined f a [] = join (f 0 a) (go (insert 0 0))
-joined f a (x ∷ w) = join (f (rowOf (placeOf f (x ∷ w))) a) (joined f a w)
+joined f a [] = withCopy (f 0 a) (go (insert 0 0))
+joined f a (x ∷ w) = withCopy (f (rowOf (partAfter f (x ∷ w))) a) (joined f a w)
 
 -- a part that has not tripped moves from its row
 moved : (f : Part) (a : ℕ) (m : Move ℕ) → tripped m ≡ false → after m (λ r. f r a) ≡ f (rowOf m) a
@@ -95,7 +95,7 @@ joined-answer : (f : Part) (a : ℕ) (w : List ℕ) → someSuffix (partTrips f)
 joined-answer f a [] e = join-answer (f 0 a) false (insert 0 0)
 joined-answer f a (x ∷ w) e =
     rw (joined-answer f a w (or-false-right (partTrips f (x ∷ w)) (someSuffix (partTrips f) w) e), next)
-    (join-answer (f (rowOf (placeOf f (x ∷ w))) a) (someSuffix (partTrips f) (w ++ (a ∷ []))) (copiesOf f (w ++ (a ∷ []))))
+    (join-answer (f (rowOf (partAfter f (x ∷ w))) a) (someSuffix (partTrips f) (w ++ (a ∷ []))) (copiesOf f (w ++ (a ∷ []))))
   where
     next : run f (f 0 x) (w ++ (a ∷ [])) ≡ f (rowOf (run f (f 0 x) w)) a
     next =
@@ -124,15 +124,15 @@ module _ (n : ℕ) (f : Part) (closed : Closed n f) where
   row-of-below trip h = closed .pos
   row-of-below (go r) h = h
 
-  pub row-below : (w : List ℕ) → rowOf (placeOf f w) < n
-  row-below w = row-of-below (placeOf f w) (run-below w (go 0) (closed .pos))
+  pub row-below : (w : List ℕ) → rowOf (partAfter f w) < n
+  row-below w = row-of-below (partAfter f w) (run-below w (go 0) (closed .pos))
 
   -- the set of the copies has rows of the part alone
   pub copies-below : (w : List ℕ) (q : ℕ) → n ≤ q → bit (copiesOf f w) q ≡ false
   copies-below [] q h = let g = closed .pos in rw (bit-insert 0 0 q, ne-eqb q 0 (omega arith)) (bit-empty q)
   copies-below (a ∷ w) q h =
       let g = row-below (a ∷ w) in
-      rw (bit-insert (rowOf (placeOf f (a ∷ w))) (copiesOf f w) q, ne-eqb q (rowOf (placeOf f (a ∷ w))) (omega arith)) (copies-below w q h)
+      rw (bit-insert (rowOf (partAfter f (a ∷ w))) (copiesOf f w) q, ne-eqb q (rowOf (partAfter f (a ∷ w))) (omega arith)) (copies-below w q h)
 
   pub copies-width : (w : List ℕ) → copiesOf f w < 2 ^ 64
   copies-width w = let g = closed .few in bits-below 64 (copiesOf f w) (λ q h. copies-below w q (omega arith))
@@ -142,11 +142,11 @@ module _ (n : ℕ) (f : Part) (closed : Closed n f) where
     move-copies : (a : ℕ) (w : List ℕ) → moveBelow f (copiesOf f w) a room ≡ joined f a w
     move-copies a [] =
         let g = closed .pos in
-        move-insert f a 0 0 room (omega arith) ∙ ap (join (f 0 a)) (move-empty f a room)
+        move-insert f a 0 0 room (omega arith) ∙ ap (withCopy (f 0 a)) (move-empty f a room)
     move-copies a (x ∷ w) =
         let g = row-below (x ∷ w) in
-        move-insert f a (rowOf (placeOf f (x ∷ w))) (copiesOf f w) room (omega arith)
-        ∙ ap (join (f (rowOf (placeOf f (x ∷ w))) a)) (move-copies a w)
+        move-insert f a (rowOf (partAfter f (x ∷ w))) (copiesOf f w) room (omega arith)
+        ∙ ap (withCopy (f (rowOf (partAfter f (x ∷ w))) a)) (move-copies a w)
 
     abbrev move : Step ℕ
     move set a = moveBelow f set a room
@@ -157,7 +157,7 @@ module _ (n : ℕ) (f : Part) (closed : Closed n f) where
         judged : (w : List ℕ) (a : ℕ) (b : Bool) → someSuffix (partTrips f) w ≡ b
             → after (answer b (copiesOf f w)) (λ v. move v a)
             ≡ answer (someSuffix (partTrips f) (w ++ (a ∷ []))) (copiesOf f (w ++ (a ∷ [])))
-        judged w a true e = rw (rule-lasting (copied (partTrips f)) tt (part-lasting f) .stays w (a ∷ []) e) refl
+        judged w a true e = rw (rule-lasting (copied-r (partTrips f)) tt (part-lasting f) .stays w (a ∷ []) e) refl
         judged w a false e = move-copies a w ∙ joined-answer f a w e
 
         next : (w : List ℕ) (a : ℕ) → run move (go (insert 0 0)) w ≡ answer (someSuffix (partTrips f) w) (copiesOf f w)
@@ -167,5 +167,5 @@ module _ (n : ℕ) (f : Part) (closed : Closed n f) where
             ∙ ap (λ (m : Move ℕ). after m (λ v. move v a)) ih
             ∙ judged w a (someSuffix (partTrips f) w) refl
 
-  pub copied-right : Right (copied f)
+  pub copied-right : RightStep (copied-r f)
   copied-right = record { right = copies-run 64 (closed .few) }

@@ -1,4 +1,4 @@
-pub mod Words
+pub mod Operators
 pub mod Waits
 pub mod Residual
 pub mod Parts
@@ -10,8 +10,8 @@ pub mod Sets
 pub mod Answer
 pub mod Simple
 pub mod Pairs
-pub mod Until
-pub mod Then
-pub mod Timed
+pub mod Before
+pub mod After
+pub mod Fulfilling
 pub mod Copies
 pub mod Steps

@@ -6,31 +6,31 @@ use mathlib.Core.List.{List, [], _∷_, _++_}
 use Prim.Native.Nat.{ℕ}
 use Rattle.trace.specs.Trace.{Move, go, after, run, tripped, trips}
 use Rattle.trace.proofs.Laws.{run-append}
-use Rattle.policy.specs.Rule.{Rule, opening, counting, same, both, either, copied, until, then, timed, filtered, onParts, ruleTrips}
+use Rattle.policy.specs.Rule.{Rule, opening-r, count-r, same-r, both-r, either-r, copied-r, before-r, after-r, fulfilling-r, ignoring-r, onParts, ruleTrips}
 use Rattle.policy.specs.Value.{Part, partTrips, Value, remembered, start, stepOf}
-use Rattle.policy.specs.Closed.{Sound, answer}
-use Rattle.policy.specs.Right.{Right}
+use Rattle.policy.specs.Closed.{SoundRule, answer}
+use Rattle.policy.specs.Right.{RightStep}
 use Rattle.policy.proofs.Answer.{answer-tripped}
-use Rattle.policy.proofs.Simple.{opening-right, counting-right, same-right, filtered-right}
+use Rattle.policy.proofs.Simple.{opening-right, count-right, same-right, ignoring-right}
 use Rattle.policy.proofs.Pairs.{both-right, either-right}
-use Rattle.policy.proofs.Until.{until-right}
-use Rattle.policy.proofs.Then.{then-right}
-use Rattle.policy.proofs.Timed.{timed-right}
+use Rattle.policy.proofs.Before.{before-right}
+use Rattle.policy.proofs.After.{after-right}
+use Rattle.policy.proofs.Fulfilling.{fulfilling-right}
 use Rattle.policy.proofs.Copies.{copied-right}
 
-pub rule-right : (rule : Rule Part) → Sound rule → Right rule
-rule-right (opening hit) s = opening-right hit
-rule-right (counting k) s = counting-right k (s .positive)
-rule-right (same f) s = same-right f
-rule-right (both f g) s = both-right f g
-rule-right (either f g) s = either-right f g
-rule-right (copied f) s = copied-right (s .closed .0) f (s .closed .1)
-rule-right (until f g) s = until-right f g
-rule-right (then f g) s = then-right f g
-rule-right (timed k f g h) s = timed-right k f g h
-rule-right (filtered hit f) s = filtered-right hit f
+pub rule-right : (rule : Rule Part) → SoundRule rule → RightStep rule
+rule-right (opening-r hit) s = opening-right hit
+rule-right (count-r k) s = count-right k (s .positive)
+rule-right (same-r f) s = same-right f
+rule-right (both-r f g) s = both-right f g
+rule-right (either-r f g) s = either-right f g
+rule-right (copied-r f) s = copied-right (s .closed .0) f (s .closed .1)
+rule-right (before-r f g) s = before-right f g
+rule-right (after-r f g) s = after-right f g
+rule-right (fulfilling-r k f g h) s = fulfilling-right k f g h
+rule-right (ignoring-r hit f) s = ignoring-right hit f
 
-module _ (rule : Rule Part) (sound : Sound rule) where
+module _ (rule : Rule Part) (sound : SoundRule rule) where
   -- reading a sequence from the start
   pub steps-right : (w : List ℕ) → run (stepOf rule) (go (start rule)) w ≡ answer (ruleTrips (onParts partTrips rule) w) (remembered rule w)
   steps-right = rule-right rule sound .right

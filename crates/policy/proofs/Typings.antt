@@ -6,7 +6,7 @@ use mathlib.Core.Bool.{Bool, true, false, cond}
 use Prim.Native.Nat.{ℕ}
 use native.Mathlib.Omega.{arith}
 use Rattle.policy.specs.Policy.{Policy, fulfilling}
-use Rattle.policy.specs.Typing.{Mode, watched, enforced, Bound, Typing, typed, untyped, ifTyped, ifWatched, ifEnforced, onMode, typeOf}
+use Rattle.policy.specs.Typing.{Mode, watched, enforced, Bound, Typing, typed, untyped, ifTyped, ifWatched, ifEnforced, onMode, policyType}
 use Rattle.policy.specs.Waits.{FulfillingTyped}
 use Rattle.policy.specs.Trips.{Typed}
 
@@ -39,16 +39,16 @@ pub from-cond : (b : Bool) (s : Typing) {m : Mode} {k : Bound} → cond b s unty
 from-cond true s e = (refl, e)
 from-cond false s e = not-typed e
 
-pub typed-as : {p : Policy} {m : Mode} {k : Bound} → typeOf p ≡ typed m k → Typed p
+pub typed-as : {p : Policy} {m : Mode} {k : Bound} → policyType p ≡ typed m k → Typed p
 typed-as {m} {k} e = record { mode = m; bound = k; has = e }
 
 -- Fulfilling has a type exactly where its parts have the types that it asks for.
 module _ (k : ℕ) (a b c : Policy) {m : Mode} {bound : Bound} where
-  fulfilling-parts : typeOf (fulfilling k a b c) ≡ typed m bound → FulfillingTyped k a b c m bound
+  fulfilling-parts : policyType (fulfilling k a b c) ≡ typed m bound → FulfillingTyped k a b c m bound
   fulfilling-parts e =
-      let f = from-watched (typeOf a) _ e in
-      let g = from-enforced (typeOf b) _ (f .2) in
-      let h = from-enforced (typeOf c) _ (g .2) in
+      let f = from-watched (policyType a) _ e in
+      let g = from-enforced (policyType b) _ (f .2) in
+      let h = from-enforced (policyType c) _ (g .2) in
       let d = h .2 in
       record {
         enforced-whole = cc;
@@ -61,5 +61,5 @@ module _ (k : ℕ) (a b c : Policy) {m : Mode} {bound : Bound} where
         bound-is = cc;
       }
 
-  pub fulfilling-typed : (typeOf (fulfilling k a b c) ≡ typed m bound) ↔ FulfillingTyped k a b c m bound
+  pub fulfilling-typed : (policyType (fulfilling k a b c) ≡ typed m bound) ↔ FulfillingTyped k a b c m bound
   fulfilling-typed = (fulfilling-parts, λ t. rw (t .watched-a, t .enforced-b, t .enforced-c, t .enforced-whole, t .bound-is))

@@ -1,4 +1,4 @@
--- Fulfilling in plain quantifiers. An a fulfilled by the k-th action begins b behind the action that fulfils it; else c begins behind the k-th, and
+-- Fulfilling in plain quantifiers. An a fulfilled by the k-th action begins b after the action that fulfils it; else c begins after the k-th, and
 -- what a does from there on no longer matters. The same of what is remembered.
 -- Assumes nothing.
 use mathlib.Core.Path.{_≡_, refl, sym, _∙_}
@@ -12,14 +12,14 @@ use lib.Dec.{leb}
 use lib.ListN.{length, take, drop, length-take}
 use borrow.Author.Tests.{le-leb, lt-leb}
 use Rattle.trace.proofs.Laws.{not-both}
-use Rattle.policy.specs.Words.{Property, first}
+use Rattle.policy.specs.Operators.{Property, first}
 use Rattle.policy.specs.Policy.{Policy, fulfilling, within, satisfies}
-use Rattle.policy.specs.Rule.{timed}
-use Rattle.policy.specs.Value.{Part, partTrips, placeOf, rowOf, Timed, waiting, kept, missed, rememberedTimed, remembered}
+use Rattle.policy.specs.Rule.{fulfilling-r}
+use Rattle.policy.specs.Value.{Part, partTrips, partAfter, rowOf, Fulfilling, waiting, kept, missed, rememberedFulfilling, remembered}
 use Rattle.policy.specs.Waits.{Shortest, NotWithin}
-use Rattle.policy.proofs.Words.{first-some, first-none}
+use Rattle.policy.proofs.Operators.{first-some, first-none}
 
--- What a wait of k actions comes to behind l of them, with r the first fulfilment: in time, over, or still on.
+-- What a wait of k actions comes to after l of them, with r the first fulfilment: in time, over, or still on.
 abbrev waitCase : {X : Type 0} → (k : ℕ) → Option ℕ → (l : ℕ) → (in-time : ℕ → X) → (over on : X) → X
 waitCase k none l in-time over on = cond (leb k l) over on
 waitCase k (some n) l in-time over on = cond (leb n k) (in-time n) (cond (leb k l) over on)
@@ -104,26 +104,26 @@ wait-agrees propositions k a d b c agree w =
     ∙ case-agrees k w (behind propositions k a b c w) (late propositions k a b c w) true (satisfies propositions a) (satisfies propositions d) agree
     ∙ sym (as-case propositions k d b c w (first (satisfies propositions d) w))
 
--- What is remembered: b's row behind the action that trips a in time; c's row once the wait is over, and nothing of a; else a's row and the actions.
+-- What is remembered: b's row after the action that trips a in time; c's row once the wait is over, and nothing of a; else a's row and the actions.
 module _ (k : ℕ) (f g h : Part) (w : List ℕ) where
-  abbrev keptBehind : ℕ → Timed
-  keptBehind n = kept (rowOf (placeOf g (drop n w)))
+  abbrev keptBehind : ℕ → Fulfilling
+  keptBehind n = kept (rowOf (partAfter g (drop n w)))
 
-  abbrev missedNow : Timed
-  missedNow = missed (rowOf (placeOf h (drop k w)))
+  abbrev missedNow : Fulfilling
+  missedNow = missed (rowOf (partAfter h (drop k w)))
 
-  abbrev waitingNow : Timed
-  waitingNow = waiting (rowOf (placeOf f w)) (length w)
+  abbrev waitingNow : Fulfilling
+  waitingNow = waiting (rowOf (partAfter f w)) (length w)
 
-  value-case : (r : Option ℕ) → rememberedTimed r k f g h w ≡ waitCase k r (length w) keptBehind missedNow waitingNow
+  value-case : (r : Option ℕ) → rememberedFulfilling r k f g h w ≡ waitCase k r (length w) keptBehind missedNow waitingNow
   value-case none = refl
   value-case (some n) = refl
 
-  pub value-in-time : (n : ℕ) → Shortest (partTrips f) w n → n ≤ k → remembered (timed k f g h) w ≡ kept (rowOf (placeOf g (drop n w)))
+  pub value-in-time : (n : ℕ) → Shortest (partTrips f) w n → n ≤ k → remembered (fulfilling-r k f g h) w ≡ kept (rowOf (partAfter g (drop n w)))
   value-in-time n s l = value-case (first (partTrips f) w) ∙ case-in-time k w keptBehind missedNow waitingNow (partTrips f) n s l
 
-  pub value-over : k ≤ length w → NotWithin k (partTrips f) w → remembered (timed k f g h) w ≡ missed (rowOf (placeOf h (drop k w)))
+  pub value-over : k ≤ length w → NotWithin k (partTrips f) w → remembered (fulfilling-r k f g h) w ≡ missed (rowOf (partAfter h (drop k w)))
   value-over l not-yet = value-case (first (partTrips f) w) ∙ case-over k w keptBehind missedNow waitingNow (partTrips f) l not-yet
 
-  pub value-on : length w < k → NotWithin k (partTrips f) w → remembered (timed k f g h) w ≡ waiting (rowOf (placeOf f w)) (length w)
+  pub value-on : length w < k → NotWithin k (partTrips f) w → remembered (fulfilling-r k f g h) w ≡ waiting (rowOf (partAfter f w)) (length w)
   value-on l not-yet = value-case (first (partTrips f) w) ∙ case-on k w keptBehind missedNow waitingNow (partTrips f) l not-yet

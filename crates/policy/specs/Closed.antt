@@ -19,7 +19,7 @@ pub record Closed (n : ℕ) (f : Part) : Type 0 where
   pub stay : (r a : ℕ) → r < n → Below n (f r a)
 
 -- A rule whose parts are closed and whose count is 1 or more.
-pub record Sound (rule : Rule Part) : Type 0 where
+pub record SoundRule (rule : Rule Part) : Type 0 where
   pub positive : Positive rule
   pub closed : AllParts (λ f. (n : ℕ) × Closed n f) rule
 

@@ -1,5 +1,5 @@
 pub mod Formula
-pub mod Words
+pub mod Operators
 pub mod Policy
 pub mod Typing
 pub mod Waits

@@ -7,7 +7,7 @@ use Prim.Native.Nat.{ℕ}
 use lib.Dec.{leb}
 use lib.ListN.{length, drop}
 use Rattle.policy.specs.Formula.{Formula, holds}
-use Rattle.policy.specs.Words.{firstAction, someSuffix, everySuffix, first, upTo, following, without}
+use Rattle.policy.specs.Operators.{firstAction, someSuffix, everySuffix, first, upTo, following, without}
 
 pub data Policy : Type 0 where
   now : Formula → Policy

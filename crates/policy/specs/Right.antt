@@ -9,5 +9,5 @@ use Rattle.policy.specs.Rule.{Rule, onParts, ruleTrips}
 use Rattle.policy.specs.Value.{Part, partTrips, remembered, start, stepOf}
 use Rattle.policy.specs.Closed.{answer}
 
-pub record Right (rule : Rule Part) : Type 0 where
+pub record RightStep (rule : Rule Part) : Type 0 where
   pub right : (w : List ℕ) → run (stepOf rule) (go (start rule)) w ≡ answer (ruleTrips (onParts partTrips rule) w) (remembered rule w)

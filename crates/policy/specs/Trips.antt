@@ -2,9 +2,9 @@
 -- Assumes nothing.
 use mathlib.Core.Path.{_≡_}
 use Prim.Native.Nat.{ℕ}
-use Rattle.policy.specs.Words.{Property}
+use Rattle.policy.specs.Operators.{Property}
 use Rattle.policy.specs.Policy.{Policy, satisfies}
-use Rattle.policy.specs.Typing.{Mode, watched, Bound, Typing, typed, untyped, typeOf, trippedAt}
+use Rattle.policy.specs.Typing.{Mode, watched, Bound, Typing, typed, untyped, policyType, trippedAt}
 
 -- A policy with no type is read as a watched one; only typed ones are compiled.
 abbrev pub modeOf : Typing → Mode
@@ -12,9 +12,9 @@ modeOf (typed m k) = m
 modeOf untyped = watched
 
 abbrev pub tripsPolicy : (ℕ → ℕ) → Policy → Property
-tripsPolicy propositions p w = trippedAt (modeOf (typeOf p)) (satisfies propositions p w)
+tripsPolicy propositions p w = trippedAt (modeOf (policyType p)) (satisfies propositions p w)
 
 pub record Typed (p : Policy) : Type 0 where
   pub mode : Mode
   pub bound : Bound
-  pub has : typeOf p ≡ typed mode bound
+  pub has : policyType p ≡ typed mode bound

@@ -86,21 +86,21 @@ typeFulfilling n s t u = ifWatched s (λ i. ifEnforced t (λ j. ifEnforced u (λ
 abbrev pub typeIgnoring : Typing → Typing
 typeIgnoring t = ifTyped t (λ m k. typed m unbounded)
 
-abbrev pub typeOf : Policy → Typing
-typeOf (now f) = typeNow
-typeOf (holds-first f) = typeHolds
-typeOf (count k) = typeCount k
-typeOf (not-p a) = typeNot (typeOf a)
-typeOf (and-p a b) = alikeTyped (typeOf a) (typeOf b)
-typeOf (or-p a b) = alikeTyped (typeOf a) (typeOf b)
-typeOf (eventually a) = typeEventually (typeOf a)
-typeOf (always a) = typeAlways (typeOf a)
-typeOf (before- a b) = typeBefore- (typeOf a) (typeOf b)
-typeOf (before+ a b) = typeBefore+ (typeOf a) (typeOf b)
-typeOf (after- a b) = typeAfter- (typeOf a) (typeOf b)
-typeOf (after+ a b) = typeAfter+ (typeOf a) (typeOf b)
-typeOf (fulfilling n a b c) = typeFulfilling n (typeOf a) (typeOf b) (typeOf c)
-typeOf (ignoring f b) = typeIgnoring (typeOf b)
+abbrev pub policyType : Policy → Typing
+policyType (now f) = typeNow
+policyType (holds-first f) = typeHolds
+policyType (count k) = typeCount k
+policyType (not-p a) = typeNot (policyType a)
+policyType (and-p a b) = alikeTyped (policyType a) (policyType b)
+policyType (or-p a b) = alikeTyped (policyType a) (policyType b)
+policyType (eventually a) = typeEventually (policyType a)
+policyType (always a) = typeAlways (policyType a)
+policyType (before- a b) = typeBefore- (policyType a) (policyType b)
+policyType (before+ a b) = typeBefore+ (policyType a) (policyType b)
+policyType (after- a b) = typeAfter- (policyType a) (policyType b)
+policyType (after+ a b) = typeAfter+ (policyType a) (policyType b)
+policyType (fulfilling n a b c) = typeFulfilling n (policyType a) (policyType b) (policyType c)
+policyType (ignoring f b) = typeIgnoring (policyType b)
 
 -- A watched policy has tripped when it is satisfied, an enforced one when it is violated.
 abbrev pub trippedAt : Mode → Bool → Bool

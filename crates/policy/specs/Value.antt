@@ -11,8 +11,8 @@ use lib.Bits.{bitOr}
 use lib.ListN.{length, drop}
 use Rattle.base.specs.Sets.{bit}
 use Rattle.trace.specs.Trace.{Move, trip, go, Step, after, run, tripped, trips}
-use Rattle.policy.specs.Words.{Property, first, without}
-use Rattle.policy.specs.Rule.{Rule, opening, counting, same, both, either, copied, until, then, timed, filtered}
+use Rattle.policy.specs.Operators.{Property, first, without}
+use Rattle.policy.specs.Rule.{Rule, opening-r, count-r, same-r, both-r, either-r, copied-r, before-r, after-r, fulfilling-r, ignoring-r}
 
 -- A part's machine, which starts at row 0.
 abbrev pub Part : Type 0
@@ -22,8 +22,8 @@ Part = Step ℕ
 abbrev pub partTrips : Part → Property
 partTrips f w = trips f 0 w
 
-abbrev pub placeOf : Part → List ℕ → Move ℕ
-placeOf f w = run f (go 0) w
+abbrev pub partAfter : Part → List ℕ → Move ℕ
+partAfter f w = run f (go 0) w
 
 abbrev pub rowOf : Move ℕ → ℕ
 rowOf trip = 0
@@ -40,34 +40,34 @@ pub record Pair : Type 0 where
   pub right : Move ℕ
 
 -- Before: both rows; after a is fulfilled, one value
-pub data Until : Type 0 where
-  rows : (a b : ℕ) → Until
-  released : Until
+pub data Before : Type 0 where
+  rows : (a b : ℕ) → Before
+  released : Before
 
 -- After: the row of a; once a is fulfilled, a mark and the row of b
-pub data Then : Type 0 where
-  row : (a : ℕ) → Then
-  marked : (b : ℕ) → Then
+pub data After : Type 0 where
+  row : (a : ℕ) → After
+  marked : (b : ℕ) → After
 
 -- Fulfilling: the row of a and the actions so far; then b and its row, or c and its row
-pub data Timed : Type 0 where
-  waiting : (a sofar : ℕ) → Timed
-  kept : (b : ℕ) → Timed
-  missed : (c : ℕ) → Timed
+pub data Fulfilling : Type 0 where
+  waiting : (a sofar : ℕ) → Fulfilling
+  kept : (b : ℕ) → Fulfilling
+  missed : (c : ℕ) → Fulfilling
 
 -- Count remembers the actions so far, Not and Ignoring the row of their part, Eventually and Always the set of rows of the copies: bit r
 -- of the number is set when a copy is in row r.
 abbrev pub Value : Rule Part → Type 0
-Value (opening hit) = Opening
-Value (counting k) = ℕ
-Value (same f) = ℕ
-Value (both f g) = Pair
-Value (either f g) = Pair
-Value (copied f) = ℕ
-Value (until f g) = Until
-Value (then f g) = Then
-Value (timed k f g h) = Timed
-Value (filtered hit f) = ℕ
+Value (opening-r hit) = Opening
+Value (count-r k) = ℕ
+Value (same-r f) = ℕ
+Value (both-r f g) = Pair
+Value (either-r f g) = Pair
+Value (copied-r f) = ℕ
+Value (before-r f g) = Before
+Value (after-r f g) = After
+Value (fulfilling-r k f g h) = Fulfilling
+Value (ignoring-r hit f) = ℕ
 
 -- a set of rows with one row more
 abbrev pub insert : ℕ → ℕ → ℕ
@@ -76,35 +76,35 @@ insert r set = bitOr set (2 ^ r)
 -- the rows of the copies of a part, one begun before each action so far and one beginning now
 abbrev pub copiesOf : Part → List ℕ → ℕ
 copiesOf f [] = insert 0 0
-copiesOf f (a ∷ w) = insert (rowOf (placeOf f (a ∷ w))) (copiesOf f w)
+copiesOf f (a ∷ w) = insert (rowOf (partAfter f (a ∷ w))) (copiesOf f w)
 
 abbrev pub rememberedOpening : List ℕ → Opening
 rememberedOpening [] = fresh
 rememberedOpening (a ∷ w) = spent
 
-abbrev pub rememberedThen : Option ℕ → Part → Part → List ℕ → Then
-rememberedThen none f g w = row (rowOf (placeOf f w))
-rememberedThen (some n) f g w = marked (rowOf (placeOf g (drop n w)))
+abbrev pub rememberedAfter : Option ℕ → Part → Part → List ℕ → After
+rememberedAfter none f g w = row (rowOf (partAfter f w))
+rememberedAfter (some n) f g w = marked (rowOf (partAfter g (drop n w)))
 
-abbrev pub rememberedLate : ℕ → Part → Part → List ℕ → Timed
-rememberedLate k f h w = cond (leb k (length w)) (missed (rowOf (placeOf h (drop k w)))) (waiting (rowOf (placeOf f w)) (length w))
+abbrev pub rememberedLate : ℕ → Part → Part → List ℕ → Fulfilling
+rememberedLate k f h w = cond (leb k (length w)) (missed (rowOf (partAfter h (drop k w)))) (waiting (rowOf (partAfter f w)) (length w))
 
-abbrev pub rememberedTimed : Option ℕ → ℕ → Part → Part → Part → List ℕ → Timed
-rememberedTimed none k f g h w = rememberedLate k f h w
-rememberedTimed (some n) k f g h w = cond (leb n k) (kept (rowOf (placeOf g (drop n w)))) (rememberedLate k f h w)
+abbrev pub rememberedFulfilling : Option ℕ → ℕ → Part → Part → Part → List ℕ → Fulfilling
+rememberedFulfilling none k f g h w = rememberedLate k f h w
+rememberedFulfilling (some n) k f g h w = cond (leb n k) (kept (rowOf (partAfter g (drop n w)))) (rememberedLate k f h w)
 
 -- What a rule remembers of a sequence that has not tripped it.
 abbrev pub remembered : (rule : Rule Part) → List ℕ → Value rule
-remembered (opening hit) w = rememberedOpening w
-remembered (counting k) w = length w
-remembered (same f) w = rowOf (placeOf f w)
-remembered (both f g) w = record { left = placeOf f w; right = placeOf g w }
-remembered (either f g) w = record { left = placeOf f w; right = placeOf g w }
-remembered (copied f) w = copiesOf f w
-remembered (until f g) w = cond (partTrips f w) released (rows (rowOf (placeOf f w)) (rowOf (placeOf g w)))
-remembered (then f g) w = rememberedThen (first (partTrips f) w) f g w
-remembered (timed k f g h) w = rememberedTimed (first (partTrips f) w) k f g h w
-remembered (filtered hit f) w = rowOf (placeOf f (without hit w))
+remembered (opening-r hit) w = rememberedOpening w
+remembered (count-r k) w = length w
+remembered (same-r f) w = rowOf (partAfter f w)
+remembered (both-r f g) w = record { left = partAfter f w; right = partAfter g w }
+remembered (either-r f g) w = record { left = partAfter f w; right = partAfter g w }
+remembered (copied-r f) w = copiesOf f w
+remembered (before-r f g) w = cond (partTrips f w) released (rows (rowOf (partAfter f w)) (rowOf (partAfter g w)))
+remembered (after-r f g) w = rememberedAfter (first (partTrips f) w) f g w
+remembered (fulfilling-r k f g h) w = rememberedFulfilling (first (partTrips f) w) k f g h w
+remembered (ignoring-r hit f) w = rowOf (partAfter f (without hit w))
 
 -- The value before any action.
 abbrev pub start : (rule : Rule Part) → Value rule
@@ -115,8 +115,8 @@ stepOpening hit fresh a = cond (hit a) trip (go spent)
 stepOpening hit spent a = go spent
 
 -- the actions so far with this one are k or more
-abbrev pub stepCounting : ℕ → ℕ → Move ℕ
-stepCounting k n = cond (leb k (n + 1)) trip (go (n + 1))
+abbrev pub stepCount : ℕ → ℕ → Move ℕ
+stepCount k n = cond (leb k (n + 1)) trip (go (n + 1))
 
 -- the parts' moves, a part that has tripped staying so: both have tripped, or one has
 abbrev pub bothMove : Move ℕ → Move ℕ → Move Pair
@@ -130,29 +130,29 @@ eitherMove (go q) trip = trip
 eitherMove (go q) (go r) = go (record { left = go q; right = go r })
 
 -- one copy's move joined to those of the others: a copy that trips trips the whole
-abbrev pub join : Move ℕ → Move ℕ → Move ℕ
-join trip m = trip
-join (go r) trip = trip
-join (go r) (go set) = go (insert r set)
+abbrev pub withCopy : Move ℕ → Move ℕ → Move ℕ
+withCopy trip m = trip
+withCopy (go r) trip = trip
+withCopy (go r) (go set) = go (insert r set)
 
 -- the copies in rows below n, moved by an action, and a copy beginning now
 abbrev pub moveBelow : Part → ℕ → ℕ → ℕ → Move ℕ
 moveBelow f set a zero = go (insert 0 0)
-moveBelow f set a (suc n) = cond (bit set n) (join (f n a) (moveBelow f set a n)) (moveBelow f set a n)
+moveBelow f set a (suc n) = cond (bit set n) (withCopy (f n a) (moveBelow f set a n)) (moveBelow f set a n)
 
 -- every copy is kept; tables have at most 64 rows
 abbrev pub moveAll : Part → ℕ → ℕ → Move ℕ
 moveAll f set a = moveBelow f set a 64
 
 -- b is judged on the very action that fulfils a, and only then released
-abbrev pub untilMove : Move ℕ → Move ℕ → Move Until
-untilMove m trip = trip
-untilMove trip (go r) = go released
-untilMove (go q) (go r) = go (rows q r)
+abbrev pub beforeMove : Move ℕ → Move ℕ → Move Before
+beforeMove m trip = trip
+beforeMove trip (go r) = go released
+beforeMove (go q) (go r) = go (rows q r)
 
-abbrev pub stepUntil : Part → Part → Until → ℕ → Move Until
-stepUntil f g (rows q r) a = untilMove (f q a) (g r a)
-stepUntil f g released a = go released
+abbrev pub stepBefore : Part → Part → Before → ℕ → Move Before
+stepBefore f g (rows q r) a = beforeMove (f q a) (g r a)
+stepBefore f g released a = go released
 
 -- a part's move, wrapped
 abbrev pub goWith : {X : Type 0} → (ℕ → X) → Move ℕ → Move X
@@ -160,34 +160,34 @@ goWith wrap trip = trip
 goWith wrap (go r) = go (wrap r)
 
 -- a's move, and where b stands once a is fulfilled
-abbrev pub thenMove : Move ℕ → Move ℕ → Move Then
-thenMove trip b = goWith marked b
-thenMove (go q) b = go (row q)
+abbrev pub afterMove : Move ℕ → Move ℕ → Move After
+afterMove trip b = goWith marked b
+afterMove (go q) b = go (row q)
 
--- b starts on the action behind the one that fulfils a: it has read nothing yet
-abbrev pub stepThen : Part → Part → Then → ℕ → Move Then
-stepThen f g (row q) a = thenMove (f q a) (placeOf g [])
-stepThen f g (marked r) a = goWith marked (g r a)
+-- b starts on the action after the one that fulfils a: it has read nothing yet
+abbrev pub stepAfter : Part → Part → After → ℕ → Move After
+stepAfter f g (row q) a = afterMove (f q a) (partAfter g [])
+stepAfter f g (marked r) a = goWith marked (g r a)
 
 -- the actions so far, this one among them, are n
-abbrev pub timedMove : ℕ → ℕ → Move ℕ → Move Timed
-timedMove k n trip = go (kept 0)
-timedMove k n (go q) = cond (leb k n) (go (missed 0)) (go (waiting q n))
+abbrev pub fulfillingMove : ℕ → ℕ → Move ℕ → Move Fulfilling
+fulfillingMove k n trip = go (kept 0)
+fulfillingMove k n (go q) = cond (leb k n) (go (missed 0)) (go (waiting q n))
 
-abbrev pub stepTimed : ℕ → Part → Part → Part → Timed → ℕ → Move Timed
-stepTimed k f g h (waiting q n) a = timedMove k (n + 1) (f q a)
-stepTimed k f g h (kept r) a = goWith kept (g r a)
-stepTimed k f g h (missed r) a = goWith missed (h r a)
+abbrev pub stepFulfilling : ℕ → Part → Part → Part → Fulfilling → ℕ → Move Fulfilling
+stepFulfilling k f g h (waiting q n) a = fulfillingMove k (n + 1) (f q a)
+stepFulfilling k f g h (kept r) a = goWith kept (g r a)
+stepFulfilling k f g h (missed r) a = goWith missed (h r a)
 
 -- The step of each rule.
 abbrev pub stepOf : (rule : Rule Part) → Step (Value rule)
-stepOf (opening hit) v a = stepOpening hit v a
-stepOf (counting k) v a = stepCounting k v
-stepOf (same f) v a = f v a
-stepOf (both f g) v a = bothMove (after (v .left) (λ q. f q a)) (after (v .right) (λ r. g r a))
-stepOf (either f g) v a = eitherMove (after (v .left) (λ q. f q a)) (after (v .right) (λ r. g r a))
-stepOf (copied f) v a = moveAll f v a
-stepOf (until f g) v a = stepUntil f g v a
-stepOf (then f g) v a = stepThen f g v a
-stepOf (timed k f g h) v a = stepTimed k f g h v a
-stepOf (filtered hit f) v a = cond (hit a) (go v) (f v a)
+stepOf (opening-r hit) v a = stepOpening hit v a
+stepOf (count-r k) v a = stepCount k v
+stepOf (same-r f) v a = f v a
+stepOf (both-r f g) v a = bothMove (after (v .left) (λ q. f q a)) (after (v .right) (λ r. g r a))
+stepOf (either-r f g) v a = eitherMove (after (v .left) (λ q. f q a)) (after (v .right) (λ r. g r a))
+stepOf (copied-r f) v a = moveAll f v a
+stepOf (before-r f g) v a = stepBefore f g v a
+stepOf (after-r f g) v a = stepAfter f g v a
+stepOf (fulfilling-r k f g h) v a = stepFulfilling k f g h v a
+stepOf (ignoring-r hit f) v a = cond (hit a) (go v) (f v a)

@@ -5,9 +5,9 @@ use mathlib.Core.Bool.{true, false}
 use mathlib.Core.List.{List}
 use Prim.Native.Nat.{ℕ, _≤_, _<_}
 use lib.ListN.{length, take}
-use Rattle.policy.specs.Words.{Property}
+use Rattle.policy.specs.Operators.{Property}
 use Rattle.policy.specs.Policy.{Policy}
-use Rattle.policy.specs.Typing.{Mode, watched, enforced, Bound, finite, typed, larger, plus, typeOf}
+use Rattle.policy.specs.Typing.{Mode, watched, enforced, Bound, finite, typed, larger, plus, policyType}
 
 -- The first n actions satisfy P, and no shorter prefix does.
 abbrev pub Shortest : Property → List ℕ → ℕ → Type 0
@@ -24,7 +24,7 @@ pub record FulfillingTyped (k : ℕ) (a b c : Policy) (m : Mode) (bound : Bound)
   pub ka : Bound
   pub kb : Bound
   pub kc : Bound
-  pub watched-a : typeOf a ≡ typed watched ka
-  pub enforced-b : typeOf b ≡ typed enforced kb
-  pub enforced-c : typeOf c ≡ typed enforced kc
+  pub watched-a : policyType a ≡ typed watched ka
+  pub enforced-b : policyType b ≡ typed enforced kb
+  pub enforced-c : policyType c ≡ typed enforced kc
   pub bound-is : bound ≡ plus (finite k) (larger kb kc)

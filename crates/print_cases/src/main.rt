@@ -6,7 +6,7 @@ fn show(input: &[u8], length: usize) {
         return;
     }
     let mut text = printing::room();
-    let printed = sheet_text::print_sheet(&input[..length], &mut text);
+    let printed = sheet_printing::print_sheet(&input[..length], &mut text);
     io::write_all(1, printing::written(printed, &text));
 }
 

@@ -2,11 +2,11 @@
 use crate::list::say_name;
 use explaining::Explained;
 use rule_files::byte_at;
+use rule_files::following;
 use rule_files::kind_of;
 use rule_files::room_for_bytes;
 use rule_files::room_for_values;
 use rule_files::say;
-use rule_files::say_behind;
 use rule_files::say_kind;
 use rule_files::say_number;
 use rule_files::say_part;
@@ -49,11 +49,11 @@ pub(crate) fn tell_denied(list: &[u8], names: &[u8], place: usize, node: usize) 
     say(b"\naction ");
     say_number(action);
     say_name(names, action, b" (", b")");
-    say(b" is denied: place ");
+    say(b" is denied: word ");
+    say_number(following(place));
+    say(b" of the list, place ");
     say_number(place);
-    say(b" of the list, counted from 0, ");
-    say_behind(place, b"permitted action");
-    say(b"\n");
+    say(b" counted from 0\n");
 }
 
 // The node that denies.

@@ -3,16 +3,16 @@ use rule_files::Listed;
 use rule_files::action_named;
 use rule_files::byte_at;
 use rule_files::digit;
+use rule_files::following;
 use rule_files::is_doubled;
 use rule_files::is_name;
 use rule_files::name_at;
 use rule_files::pass_blanks;
 use rule_files::say;
-use rule_files::say_behind;
+use rule_files::say_bytes;
 use rule_files::say_naming;
 use rule_files::say_number;
 use rule_files::say_refusal;
-use rule_files::say_return;
 use rule_files::say_word;
 use rule_files::word_behind;
 use rule_files::word_end;
@@ -25,6 +25,14 @@ pub(crate) fn room_for_list() -> [u8; 98304]
     ensures { λ r. ⌜ 98304 ≡ length r ⌝ }
 {
     [0u8; 98304]
+}
+
+// Whether a word has a zero before its last digit.
+fn has_leading_zero(word: &[u8]) -> bool {
+    if word.len() < 2 {
+        return false;
+    }
+    word[0] == b'0'
 }
 
 // The number that a word of digits is; 255 where it has another byte, or is a larger one.
@@ -49,6 +57,9 @@ fn number_of(word: &[u8]) -> u8 {
 fn action_of(word: &[u8], names: &[u8]) -> u8 {
     if is_name(word) {
         return action_named(names, word);
+    }
+    if has_leading_zero(word) {
+        return 255;
     }
     number_of(word)
 }
@@ -99,23 +110,33 @@ pub(crate) fn read_names(names: &[u8]) -> Listed
     }
 }
 
-// A word behind so many names is none, or stands there before.
-pub(crate) fn tell_no_name(word: &[u8], behind: usize, doubled: bool) {
-    say(b"names: ");
-    say_behind(behind, b"name");
+// 2: a word after so many names is none, or stands there before. The word `sheet` is the first of its line.
+pub(crate) fn refuse_name(word: &[u8], behind: usize, doubled: bool) {
+    say_refusal(2, 0);
+    say(b"line 2, word ");
+    say_number(following(following(behind)));
     say(b": ");
     say_word(word);
     if doubled {
-        say(b" is the name of an action before it\n");
+        say(b" is the name of an action before it: each action has its own name\n");
         return;
     }
-    say(b" is no name");
-    say_return(word);
-    say(b"\n");
+    say(b" is not a name\n");
+    say_bytes(word);
     say_naming();
 }
 
-// The name of an action, with what stands before and behind it; nothing where it has none. Answers whether it has one.
+// 2: not as many names as the sheet has actions.
+pub(crate) fn refuse_names(count: usize, actions: usize) {
+    say_refusal(2, 0);
+    say(b"line 2 names ");
+    say_number(count);
+    say(b" actions, and the sheet has ");
+    say_number(actions);
+    say(b": name each of them, or none\n");
+}
+
+// The name of an action, with what stands before and after it; nothing where it has none. Answers whether it has one.
 pub(crate) fn say_name(names: &[u8], action: usize, before: &[u8], behind: &[u8]) -> bool {
     let name = name_at(names, action);
     let from = name.from;
@@ -131,7 +152,7 @@ pub(crate) fn say_name(names: &[u8], action: usize, before: &[u8], behind: &[u8]
 
 // What an action can be, where there are so many.
 fn say_actions(names: &[u8], actions: usize) {
-    say(b"an action is a number below ");
+    say(b"an action is a number without leading zero, below ");
     say_number(actions);
     let mut named = false;
     let mut action = 0;
@@ -165,12 +186,11 @@ pub(crate) fn refuse_list(line: &[u8], list: &[u8], names: &[u8], actions: usize
     let from = word.from;
     let to = word.to;
     say_refusal(12, 0);
-    say(b"the first line, ");
-    say_behind(place, b"action");
+    say(b"the list, word ");
+    say_number(following(place));
     say(b": ");
     say_word(&line[from..to]);
-    say(b" is no action");
-    say_return(&line[from..to]);
-    say(b"\n");
+    say(b" is not an action\n");
+    say_bytes(&line[from..to]);
     say_actions(names, actions);
 }

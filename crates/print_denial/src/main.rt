@@ -1,6 +1,6 @@
 // Reads a list of actions and what it is asked of from standard input, and prints which action of the list is denied first and which part of the rule
-// denies it, or what is refused and what to do. The first line is the list: words, each the number of an action or its name. Behind it stands a rule
-// file, as print_rule reads it; or a line `sheet`, on which the names of the actions may follow, and behind that line the bytes of a sheet.
+// denies it, or what is refused and what to do. The first line is the list: words, each the number of an action or its name. After it comes a rule
+// file, as print_rule reads it; or a line `sheet`, on which the names of the actions may follow, and after that line the bytes of a sheet.
 mod denials;
 mod file;
 mod list;

@@ -5,14 +5,15 @@ use crate::denials::say_quoted;
 use crate::denials::tell_denied;
 use crate::denials::tell_permitted;
 use crate::list::refuse_list;
+use compiler::Refusal;
+use compiler::refusal_number;
+use compiler::refusal_spot;
 use explaining::Explained;
 use rule_files::byte_at;
 use rule_files::say;
 use rule_files::say_number;
 use rule_files::say_refusal;
 use syntax::Fault;
-use syntax::fault_number;
-use syntax::fault_spot;
 
 // 4 to 9: the node, and what is wrong with it.
 fn tell_node(node: usize, wrong: &[u8]) {
@@ -25,7 +26,7 @@ fn tell_node(node: usize, wrong: &[u8]) {
 fn tell_fault(fault: Fault) {
     match fault {
         Fault::Length => say(
-            b"the sheet has under 10 bytes, or its header says another length: give the whole sheet\n",
+            b"the sheet has fewer than 10 bytes, or its header says another length: give the whole sheet\n",
         ),
         Fault::Counts => say(
             b"the sheet has not 1 to 16 actions, or not 1 to 64 nodes: correct the counts\n",
@@ -33,7 +34,7 @@ fn tell_fault(fault: Fault) {
         Fault::Areas => say(
             b"a list of the sheet is in the header, over the end or over the other: correct the offsets\n",
         ),
-        Fault::UnknownKindAt(node) => tell_node(node, b" is of no kind: correct it\n"),
+        Fault::UnknownKindAt(node) => tell_node(node, b" is of no known kind: correct it\n"),
         Fault::WrongFieldAt(node) => tell_node(
             node,
             b" has a part that is no earlier node, an argument outside its range, or an unused field that is not 0: correct it\n",
@@ -49,6 +50,18 @@ fn tell_fault(fault: Fault) {
     }
 }
 
+// 1 to 9: what the compiler refuses.
+fn tell_refused(refusal: Refusal) {
+    match refusal {
+        Refusal::Faulty(fault) => tell_fault(fault),
+        Refusal::TooManyValues(node) => tell_node(
+            node,
+            b" remembers more than 1024 values: simplify it\n",
+        ),
+        Refusal::TooManyRows(node) => tell_node(node, b" needs more than 64 rows: simplify it\n"),
+    }
+}
+
 // Prints the answer to a list, of which this is the line, asked of a sheet whose actions have these names.
 pub(crate) fn answer_sheet(sheet: &[u8], line: &[u8], list: &[u8], names: &[u8]) {
     match ask(sheet, list) {
@@ -59,17 +72,9 @@ pub(crate) fn answer_sheet(sheet: &[u8], line: &[u8], list: &[u8], names: &[u8])
             say_quoted(sheet, node);
         }
         Explained::ShortArea => say_refusal(14, 0),
-        Explained::Faulty(fault) => {
-            say_refusal(fault_number(fault), fault_spot(fault));
-            tell_fault(fault);
-        }
-        Explained::TooManyValues(node) => {
-            say_refusal(8, node);
-            tell_node(node, b" remembers over 1024 values: simplify it\n");
-        }
-        Explained::TooManyRows(node) => {
-            say_refusal(9, node);
-            tell_node(node, b" needs over 64 rows: simplify it\n");
+        Explained::Refused(refusal) => {
+            say_refusal(refusal_number(refusal), refusal_spot(refusal));
+            tell_refused(refusal);
         }
         Explained::WatchedSheet => {
             say_refusal(34, 0);

@@ -5,6 +5,9 @@ use crate::denials::say_quoted;
 use crate::denials::tell_denied;
 use crate::denials::tell_permitted;
 use crate::list::refuse_list;
+use compiler::Refusal;
+use compiler::refusal_number;
+use compiler::refusal_spot;
 use explaining::Explained;
 use rule_files::Place;
 use rule_files::first_watched;
@@ -20,8 +23,6 @@ use rule_files::tell_rules;
 use rule_files::tell_values;
 use rule_files::tell_watched;
 use rule_files::words_before;
-use syntax::fault_number;
-use syntax::fault_spot;
 ghost use Prim.Native.Nat.{_≤_};
 ghost use lib.ListN.{length};
 
@@ -64,6 +65,17 @@ enum Asked {
     Denied { place: usize, node: usize },
 }
 
+// What the compiler refuses of the sheet of a text: 8 or 9.
+fn tell_refused(refusal: Refusal, text: &[u8], place: Place, sheet: &[u8])
+    requires { ⌜ (length (now text) ≤ 65535) × (place .line ≤ 65537) ⌝ }
+{
+    match refusal {
+        Refusal::Faulty(_) => {}
+        Refusal::TooManyValues(node) => tell_values(text, place, sheet, node),
+        Refusal::TooManyRows(node) => tell_rows(text, place, sheet, node),
+    }
+}
+
 // Asks the sheet of a text, and tells what is refused of it.
 fn ask_sheet(text: &[u8], place: Place, sheet: &[u8], list: &[u8]) -> Asked
     requires { ⌜ (length (now text) ≤ 65535) × (place .line ≤ 65537) ⌝ }
@@ -74,25 +86,20 @@ fn ask_sheet(text: &[u8], place: Place, sheet: &[u8], list: &[u8]) -> Asked
         Explained::WatchedSheet => return Asked::Watched,
         Explained::NoAction => return Asked::WrongList,
         Explained::ShortArea => say_refusal(14, 0),
-        Explained::Faulty(fault) => say_refusal(fault_number(fault), fault_spot(fault)),
-        Explained::TooManyValues(node) => {
-            say_refusal(8, node);
-            tell_values(text, place, sheet, node);
-        }
-        Explained::TooManyRows(node) => {
-            say_refusal(9, node);
-            tell_rows(text, place, sheet, node);
+        Explained::Refused(refusal) => {
+            say_refusal(refusal_number(refusal), refusal_spot(refusal));
+            tell_refused(refusal, text, place, sheet);
         }
     }
     Asked::Refused
 }
 
 // The same from a text under an action list.
-fn ask_rule(text: &[u8], place: Place, actions: &[u16], list: &[u8]) -> Asked
+fn ask_rule(text: &[u8], place: Place, actions: &[u16], list: &[u8], names: &[u8]) -> Asked
     requires { ⌜ (length (now text) ≤ 65535) × (place .line ≤ 65537) ⌝ }
 {
     let mut sheet = room_for_sheet();
-    let length = read_rule(text, place, actions, &mut sheet);
+    let length = read_rule(text, place, actions, names, &mut sheet);
     if length == 0 {
         return Asked::Refused;
     }
@@ -129,17 +136,17 @@ fn found_with(found: Found, asked: Asked, text: &[u8], place: Place, from: usize
 }
 
 // Asks the rules of a file one after the other.
-fn ask_rules(file: &[u8], start: usize, actions: &[u16], list: &[u8]) -> Found
+fn ask_rules(file: &[u8], start: usize, actions: &[u16], list: &[u8], names: &[u8]) -> Found
     requires { ⌜ (start ≤ length (now file)) × (length (now file) ≤ 65535) ⌝ }
 {
     let mut found = nothing(list.len());
     let mut from = start;
     let mut rule = 1;
     while rule <= 8 {
-        let part = part_from(file, from, rule, 2);
+        let part = part_from(file, from, rule);
         let to = part.to;
         let place = part.place;
-        let asked = ask_rule(&file[from..to], place, actions, list);
+        let asked = ask_rule(&file[from..to], place, actions, list, names);
         found = found_with(found, asked, &file[from..to], place, from);
         if found.refused | part.last {
             return found;
@@ -157,7 +164,7 @@ fn tell_part(text: &[u8], place: Place, actions: &[u16], node: usize)
     requires { ⌜ (length (now text) ≤ 65535) × (place .line ≤ 65537) ⌝ }
 {
     let mut room = room_for_sheet();
-    let length = read_rule(text, place, actions, &mut room);
+    let length = read_rule(text, place, actions, b"", &mut room);
     let sheet = front(&room, length);
     say_denier(sheet, node);
     say_spot(text, place, words_before(sheet, node));
@@ -169,7 +176,7 @@ fn tell_rule(file: &[u8], from: usize, rule: usize, actions: &[u16], node: usize
     requires { ⌜ length (now file) ≤ 65535 ⌝ }
 {
     if from <= file.len() {
-        let part = part_from(file, from, rule, 2);
+        let part = part_from(file, from, rule);
         let to = part.to;
         let place = part.place;
         tell_part(&file[from..to], place, actions, node);
@@ -207,7 +214,7 @@ pub(crate) fn answer_rules(
 )
     requires { ⌜ (start ≤ length (now file)) × (length (now file) ≤ 65535) ⌝ }
 {
-    let found = ask_rules(file, start, actions, list);
+    let found = ask_rules(file, start, actions, list, names);
     let watched = found.watched;
     if found.refused {
         return;

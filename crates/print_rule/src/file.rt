@@ -2,6 +2,7 @@
 use crate::joined::answer_joined;
 use crate::rule::answer_text;
 use rule_files::Place;
+use rule_files::find;
 use rule_files::first_watched;
 use rule_files::front;
 use rule_files::line_behind;
@@ -22,8 +23,8 @@ fn room_for_tables() -> [u8; 8256]
     [0u8; 8256]
 }
 
-// Answers the rules of a file one after the other, each with its table behind that of the one before, and where there are several joins them.
-fn answer_rules(file: &[u8], start: usize, actions: &[u16], tables: &mut [u8])
+// Answers the rules of a file one after the other, each with its table after that of the one before, and where there are several joins them.
+fn answer_rules(file: &[u8], start: usize, actions: &[u16], list: &[u8], tables: &mut [u8])
     requires { ⌜ (start ≤ length (now file)) × (length (now file) ≤ 65535) × (8256 ≡ length (now tables)) ⌝ }
 {
     let mut watched = Place { rule: 0, line: 0 };
@@ -31,10 +32,10 @@ fn answer_rules(file: &[u8], start: usize, actions: &[u16], tables: &mut [u8])
     let mut end = 0;
     let mut rule = 1;
     while rule <= 8 {
-        let part = part_from(file, from, rule, 1);
+        let part = part_from(file, from, rule);
         let to = part.to;
         let place = part.place;
-        let length = answer_text(&file[from..to], place, actions, &mut tables[end..]);
+        let length = answer_text(&file[from..to], place, actions, list, &mut tables[end..]);
         if length == 0 {
             return;
         }
@@ -60,11 +61,18 @@ pub(crate) fn answer(file: &[u8]) {
         return;
     }
     let mut sets = room_for_actions();
-    let head = read_head(file, 1, &mut sets);
+    let head = read_head(file, &mut sets);
     let count = head.count;
     if count == 0 {
         return;
     }
     let mut tables = room_for_tables();
-    answer_rules(file, head.start, &sets[0..count], &mut tables);
+    let end = find(file, 0, 10);
+    answer_rules(
+        file,
+        head.start,
+        &sets[0..count],
+        &file[0..end],
+        &mut tables,
+    );
 }

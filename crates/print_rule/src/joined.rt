@@ -1,5 +1,6 @@
 // Several rules as one table.
 use crate::rule::room_for_table;
+use crate::rule::tell_idle;
 use joining::Joined;
 use rule_files::Place;
 use rule_files::room_for_bytes;
@@ -22,6 +23,7 @@ fn say_table(actions: usize, rows: usize, entries: &[u8]) {
     let mut text = printing::room();
     let printed = printing::print_table(Mode::Enforced, actions, rows, entries, &mut text);
     io::write_all(1, printing::written(printed, &text));
+    tell_idle(false, entries);
 }
 
 // Joins so many tables, and prints the answer. The first watched rule is told.
@@ -39,17 +41,17 @@ pub(crate) fn answer_joined(rules: usize, tables: &[u8], watched: Place) {
             say_refusal(34, 0);
             tell_watched(
                 watched,
-                b", and is not joined: put it on a place of its own\n",
+                b", and is not joined: put it into a file and on a place of its own\n",
             );
         }
         Joined::OtherActions => say_refusal(23, 0),
         Joined::TooManyValues => {
             say_refusal(8, 0);
-            tell_grown(rules, b" rules remember over 1024 values");
+            tell_grown(rules, b" rules remember more than 1024 values");
         }
         Joined::TooManyRows => {
             say_refusal(9, 0);
-            tell_grown(rules, b" rules need over 64 rows");
+            tell_grown(rules, b" rules need more than 64 rows");
         }
     }
 }

@@ -1,5 +1,5 @@
 // Reads a rule file from standard input and prints the rule's table, or its refusal and what to do. The first line of the file is the action list,
-// what stands behind it is the rule's text; or several texts, parted by lines `---`, whose tables are joined.
+// what follows is the rule's text; or several texts, separated by lines `---`, whose tables are joined.
 mod file;
 mod joined;
 mod rule;

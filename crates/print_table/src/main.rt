@@ -5,6 +5,6 @@ fn main() {
     let mut input = io::large_buffer();
     let mut text = printing::room();
     let length = io::read_full(0, &mut input);
-    let printed = sheet_text::print_sheet(&input[..length], &mut text);
+    let printed = sheet_printing::print_sheet(&input[..length], &mut text);
     io::write_all(1, printing::written(printed, &text));
 }

@@ -4,17 +4,17 @@ use mathlib.Core.List.{List, _++_}
 use Prim.Native.Nat.{ℕ, _*_, _≤_, _<_}
 use lib.ListN.{length, drop}
 use Rattle.trace.specs.declared.Mode.{Mode}
-use Rattle.printing.specs.Text.{tableText, refusalText}
+use Rattle.printed_lines.specs.Text.{tableText, refusalText}
 use Rattle.printing.specs.declared.Printed.{Printed}
 use Rattle.printing.specs.declared.Printed.the-variants.{Written, OutOfRange, ShortText}
 
 -- An answer: so many bytes were written, or the number of a refusal. A text area that is too short is 14; values that no table, or no refusal,
 -- has are 10.
-pub data Outcome : Type 0 where
-  wrote : (count : ℕ) → Outcome
-  refused : (number : ℕ) → Outcome
+pub data PrintOutcome : Type 0 where
+  wrote : (count : ℕ) → PrintOutcome
+  refused : (number : ℕ) → PrintOutcome
 
-abbrev pub outcomeOf : Printed → Outcome
+abbrev pub outcomeOf : Printed → PrintOutcome
 outcomeOf (Written count) = wrote count
 outcomeOf OutOfRange = refused 10
 outcomeOf ShortText = refused 14
@@ -32,18 +32,18 @@ pub record RefusalInRange (number spot : ℕ) : Type 0 where
   pub spot-high : spot < 1000
 
 -- A text is given to an area: at its front with the rest unchanged where it fits, else not at all.
-pub data Gives (text old : List ℕ) : Outcome → List ℕ → Type 0 where
-  fits : length text ≤ length old → Gives text old (wrote (length text)) (text ++ drop (length text) old)
-  short : length old < length text → Gives text old (refused 14) old
+pub data GivesText (text old : List ℕ) : PrintOutcome → List ℕ → Type 0 where
+  fits : length text ≤ length old → GivesText text old (wrote (length text)) (text ++ drop (length text) old)
+  short : length old < length text → GivesText text old (refused 14) old
 
-pub data PrintsTable (mode : Mode) (actions rows : ℕ) (entries old : List ℕ) : Outcome → List ℕ → Type 0 where
+pub data PrintsTable (mode : Mode) (actions rows : ℕ) (entries old : List ℕ) : PrintOutcome → List ℕ → Type 0 where
   out-of-range : (TableInRange actions rows entries → ⊥) → PrintsTable mode actions rows entries old (refused 10) old
-  in-range : (answer : Outcome) (new : List ℕ) → TableInRange actions rows entries → Gives (tableText mode actions rows entries) old answer new
+  in-range : (answer : PrintOutcome) (new : List ℕ) → TableInRange actions rows entries → GivesText (tableText mode actions rows entries) old answer new
       → PrintsTable mode actions rows entries old answer new
 
-pub data PrintsRefusal (number spot : ℕ) (old : List ℕ) : Outcome → List ℕ → Type 0 where
+pub data PrintsRefusal (number spot : ℕ) (old : List ℕ) : PrintOutcome → List ℕ → Type 0 where
   out-of-range : (RefusalInRange number spot → ⊥) → PrintsRefusal number spot old (refused 10) old
-  in-range : (answer : Outcome) (new : List ℕ) → RefusalInRange number spot → Gives (refusalText number spot) old answer new
+  in-range : (answer : PrintOutcome) (new : List ℕ) → RefusalInRange number spot → GivesText (refusalText number spot) old answer new
       → PrintsRefusal number spot old answer new
 
 -- how many bytes an answer says were written

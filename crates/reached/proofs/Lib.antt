@@ -1,2 +1,3 @@
 pub mod ReachedSets
+pub mod NodeParts
 pub mod NodeSets

@@ -8,9 +8,9 @@ use Prim.Native.Nat.{ℕ, _^_, _-_, _≤_}
 use lib.Bits.{bitOr}
 use Rattle.syntax.specs.Formed.{PartsBelow}
 use Rattle.syntax.specs.Nodes.{nodeAt, nodeOf}
+use Rattle.syntax.specs.Shape.{Conjunction, Disjunction, And, Or, BeforeMinus, BeforePlus, AfterMinus, AfterPlus, Ignoring, Shape, leaf, unary, binary, ternary, shapeOf}
 use Rattle.syntax.specs.declared.ListedNode.{ListedNode}
 use Rattle.syntax.specs.declared.Node.{Node}
-use Rattle.syntax.specs.declared.Node.the-variants.{True, False, Proposition, Negation, Conjunction, Disjunction, Now, Holds, Count, Not, And, Or, Eventually, Always, BeforeMinus, BeforePlus, AfterMinus, AfterPlus, Fulfilling, Ignoring}
 use Rattle.syntax.specs.declared.Sheet.{Sheet}
 use Rattle.reached.specs.Reached.{Reached, reachedSet}
 use Rattle.reached.specs.declared.Parts.{Parts}
@@ -19,27 +19,14 @@ use Rattle.reached.specs.declared.Through.{Through}
 use Rattle.reached.specs.declared.Through.the-variants.{EveryKind, AndAlone}
 
 -- The parts of a node, action formulas among them.
+abbrev pub partsIn : Shape ℕ → Parts
+partsIn (leaf k) = NoPart
+partsIn (unary k a) = OnePart a
+partsIn (binary k a b) = TwoParts a b
+partsIn (ternary k a b c) = ThreeParts a b c
+
 abbrev pub partsOf : Node → Parts
-partsOf True = NoPart
-partsOf False = NoPart
-partsOf (Proposition p) = NoPart
-partsOf (Negation a) = OnePart a
-partsOf (Conjunction a b) = TwoParts a b
-partsOf (Disjunction a b) = TwoParts a b
-partsOf (Now a) = OnePart a
-partsOf (Holds a) = OnePart a
-partsOf (Count k) = NoPart
-partsOf (Not a) = OnePart a
-partsOf (And a b) = TwoParts a b
-partsOf (Or a b) = TwoParts a b
-partsOf (Eventually a) = OnePart a
-partsOf (Always a) = OnePart a
-partsOf (BeforeMinus a b) = TwoParts a b
-partsOf (BeforePlus a b) = TwoParts a b
-partsOf (AfterMinus a b) = TwoParts a b
-partsOf (AfterPlus a b) = TwoParts a b
-partsOf (Fulfilling k a b c) = ThreeParts a b c
-partsOf (Ignoring a b) = TwoParts a b
+partsOf node = partsIn (shapeOf node)
 
 -- m is among these parts.
 abbrev pub InParts : Parts → ℕ → Type 0
@@ -58,35 +45,30 @@ Used sheet = Reached (PartOf sheet) (sheet .count - 1)
 
 -- m is a part of n, and n is an And (kind 14).
 pub data AndPart (sheet : Sheet) (n : ℕ) : ℕ → Type 0 where
-  left : {a b : ℕ} → nodeOf sheet n ≡ And a b → AndPart sheet n a
-  right : {a b : ℕ} → nodeOf sheet n ≡ And a b → AndPart sheet n b
+  left : {a b : ℕ} → shapeOf (nodeOf sheet n) ≡ binary And a b → AndPart sheet n a
+  right : {a b : ℕ} → shapeOf (nodeOf sheet n) ≡ binary And a b → AndPart sheet n b
 
 -- The nodes reached from one through And alone, itself among them.
 abbrev pub ReachedByAnd : Sheet → (from : ℕ) → ℕ → Type 0
 ReachedByAnd sheet from = Reached (AndPart sheet) from
 
 -- The parts of an And; none of any other node.
+abbrev pub andPartsIn : Shape ℕ → Parts
+andPartsIn (leaf k) = NoPart
+andPartsIn (unary k a) = NoPart
+andPartsIn (binary Conjunction a b) = NoPart
+andPartsIn (binary Disjunction a b) = NoPart
+andPartsIn (binary And a b) = TwoParts a b
+andPartsIn (binary Or a b) = NoPart
+andPartsIn (binary BeforeMinus a b) = NoPart
+andPartsIn (binary BeforePlus a b) = NoPart
+andPartsIn (binary AfterMinus a b) = NoPart
+andPartsIn (binary AfterPlus a b) = NoPart
+andPartsIn (binary Ignoring a b) = NoPart
+andPartsIn (ternary k a b c) = NoPart
+
 abbrev pub andParts : Node → Parts
-andParts True = NoPart
-andParts False = NoPart
-andParts (Proposition p) = NoPart
-andParts (Negation a) = NoPart
-andParts (Conjunction a b) = NoPart
-andParts (Disjunction a b) = NoPart
-andParts (Now a) = NoPart
-andParts (Holds a) = NoPart
-andParts (Count k) = NoPart
-andParts (Not a) = NoPart
-andParts (And a b) = TwoParts a b
-andParts (Or a b) = NoPart
-andParts (Eventually a) = NoPart
-andParts (Always a) = NoPart
-andParts (BeforeMinus a b) = NoPart
-andParts (BeforePlus a b) = NoPart
-andParts (AfterMinus a b) = NoPart
-andParts (AfterPlus a b) = NoPart
-andParts (Fulfilling k a b c) = NoPart
-andParts (Ignoring a b) = NoPart
+andParts node = andPartsIn (shapeOf node)
 
 -- The parts that are gone to: those of every node, or of Ands alone.
 abbrev pub partsBy : Through → Node → Parts

@@ -15,7 +15,7 @@ use Rattle.places.specs.declared.Case.the-variants.{Empty, Enforced, Watched, F
 use Rattle.places.specs.declared.Place.{Place}
 use Rattle.places.specs.declared.Board.{Board}
 use Rattle.places.specs.Layout.{placeCount}
-use Rattle.records.specs.Record.{placeLength, recordLength, caseOf, placeOf, placeAt, boardOf, caseByte, rowByte, placeBytes, bytesTo, recordOf, written}
+use Rattle.records.specs.Record.{placeRecordLength, recordLength, caseOf, recordedPlace, placeAt, boardOf, caseByte, rowByte, placeRecord, bytesTo, recordOf, written}
 
 -- one place
 case-back : (c : Case) → caseOf (caseByte c) (rowByte c) ≡ c
@@ -24,7 +24,7 @@ case-back (Enforced row) = refl
 case-back (Watched row) = refl
 case-back Fulfilled = refl
 
-pub place-back : (p : Place) → placeOf (caseByte (p .case)) (rowByte (p .case)) ≡ p
+pub place-back : (p : Place) → recordedPlace (caseByte (p .case)) (rowByte (p .case)) ≡ p
 place-back p = ap placeIn (case-back (p .case))
 
 pub eight-places : (bytes : List ℕ) → length (boardOf bytes .places) ≡ placeCount
@@ -36,8 +36,8 @@ unfolding boardOf
 place-of-board bytes i h = filled-at placeCount (placeIn Empty) (λ i before. placeAt bytes i) placeCount i h (omega arith)
 
 module _ (board : Board) where
-  length-bytes : (n : ℕ) → length (bytesTo board n) ≡ placeLength * n
-  length-bytes = length-joined placeLength (λ i. placeBytes (caseAt board i)) (λ i. refl)
+  length-bytes : (n : ℕ) → length (bytesTo board n) ≡ placeRecordLength * n
+  length-bytes = length-joined placeRecordLength (λ i. placeRecord (caseAt board i)) (λ i. refl)
 
   pub length-record : length (recordOf board) ≡ recordLength
   unfolding recordOf
@@ -51,16 +51,16 @@ module _ (board : Board) where
     pub length-written : recordLength ≤ length bytes → length (written board bytes) ≡ length bytes
     length-written long = omega (arith, length-append (recordOf board) (drop recordLength bytes), length-record, length-drop recordLength bytes)
 
-    byte-back : (i j : ℕ) → i < placeCount → j < placeLength → getD (written board bytes) (placeLength * i + j) 0 ≡ getD (placeBytes (caseAt board i)) j 0
+    byte-back : (i j : ℕ) → i < placeCount → j < placeRecordLength → getD (written board bytes) (placeRecordLength * i + j) 0 ≡ getD (placeRecord (caseAt board i)) j 0
     unfolding recordOf
     byte-back i j h g =
-        List·getD-append (recordOf board) (drop recordLength bytes) 0 (placeLength * i + j) (omega (arith, length-record))
-        ∙ getD-joined placeLength (λ k. placeBytes (caseAt board k)) (λ k. refl) placeCount i j h g
+        List·getD-append (recordOf board) (drop recordLength bytes) 0 (placeRecordLength * i + j) (omega (arith, length-record))
+        ∙ getD-joined placeRecordLength (λ k. placeRecord (caseAt board k)) (λ k. refl) placeCount i j h g
 
     place-at-back : (i : ℕ) → i < placeCount → placeAt (written board bytes) i ≡ getD (board .places) i (placeIn Empty)
     place-at-back i h =
-        let e : placeLength * i ≡ placeLength * i + 0 = omega arith in
-        ap₂ placeOf (ap (λ (n : ℕ). getD (written board bytes) n 0) e ∙ byte-back i 0 h (omega arith)) (byte-back i 1 h (omega arith))
+        let e : placeRecordLength * i ≡ placeRecordLength * i + 0 = omega arith in
+        ap₂ recordedPlace (ap (λ (n : ℕ). getD (written board bytes) n 0) e ∙ byte-back i 0 h (omega arith)) (byte-back i 1 h (omega arith))
         ∙ place-back (getD (board .places) i (placeIn Empty))
 
     pub read-back : length (board .places) ≡ placeCount → boardOf (written board bytes) ≡ board

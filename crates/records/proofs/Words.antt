@@ -16,7 +16,7 @@ use Rattle.places.specs.Layout.{placeCount}
 use Rattle.places.specs.Places.{caseIn, caseAt}
 use Rattle.places.specs.declared.Place.{Place}
 use Rattle.places.specs.declared.Board.{Board}
-use Rattle.records.specs.Record.{placeLength, placeBytes, WordsTo, recordOf}
+use Rattle.records.specs.Record.{placeRecordLength, placeRecord, WordsTo, recordOf}
 
 -- two bytes are those of their word
 pub word-of-bytes : (low high : ℕ) → low < 256 → high < 256 → wordBytes (low + 256 * high) ≡ low ∷ high ∷ []
@@ -28,10 +28,10 @@ word-of-bytes low high h g =
 
 -- one word more
 pub words-more : (places : List Place) (words : List ℕ) (n word : ℕ) → n < length words → WordsTo places n words
-    → wordBytes word ≡ placeBytes (caseIn places n) → WordsTo places (n + 1) (set words n word)
+    → wordBytes word ≡ placeRecord (caseIn places n) → WordsTo places (n + 1) (set words n word)
 words-more places words n word long before e = λ i h. at i h (ℕ-discrete i n)
   where
-    at : (i : ℕ) → i < n + 1 → Dec (i ≡ n) → wordBytes (getD (set words n word) i 0) ≡ placeBytes (caseIn places i)
+    at : (i : ℕ) → i < n + 1 → Dec (i ≡ n) → wordBytes (getD (set words n word) i 0) ≡ placeRecord (caseIn places i)
     at i h (yes p) = rw (p, getD-set-same words n word 0 long) e
     at i h (no q) = rw (getD-set-other words n i word 0 q) (before i (omega arith))
 
@@ -41,11 +41,11 @@ bytesOf words n = joined n (λ i. wordBytes (getD words i 0))
 
 -- a word stored after those before it
 pub bytes-more : (words l : List ℕ) (i : ℕ)
-    → sets (sets l 0 (bytesOf words i)) (placeLength * i) (wordBytes (getD words i 0)) ≡ sets l 0 (bytesOf words (i + 1))
+    → sets (sets l 0 (bytesOf words i)) (placeRecordLength * i) (wordBytes (getD words i 0)) ≡ sets l 0 (bytesOf words (i + 1))
 bytes-more words l i =
     rw (add-one i)
-    (sets-then l 0 (bytesOf words i) (wordBytes (getD words i 0)) (placeLength * i)
-    (omega (arith, length-joined placeLength (λ k. wordBytes (getD words k 0)) (λ k. refl) i)))
+    (sets-then l 0 (bytesOf words i) (wordBytes (getD words i 0)) (placeRecordLength * i)
+    (omega (arith, length-joined placeRecordLength (λ k. wordBytes (getD words k 0)) (λ k. refl) i)))
 
 joined-same : (f g : ℕ → List ℕ) (n : ℕ) → ((i : ℕ) → i < n → f i ≡ g i) → joined n f ≡ joined n g
 joined-same f g zero same = refl
@@ -54,4 +54,4 @@ joined-same f g (suc n) same = ap₂ _++_ (joined-same f g n (λ i h. same i (om
 -- the words of all places give the record
 pub record-of-words : (board : Board) (words : List ℕ) → WordsTo (board .places) placeCount words → bytesOf words placeCount ≡ recordOf board
 unfolding recordOf
-record-of-words board words same = joined-same (λ i. wordBytes (getD words i 0)) (λ i. placeBytes (caseAt board i)) placeCount same
+record-of-words board words same = joined-same (λ i. wordBytes (getD words i 0)) (λ i. placeRecord (caseAt board i)) placeCount same

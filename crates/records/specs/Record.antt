@@ -16,11 +16,11 @@ use Rattle.places.specs.declared.Place.{Place}
 use Rattle.places.specs.declared.Board.{Board}
 
 -- The bytes of a place, and those of a record.
-abbrev pub placeLength : ℕ
-placeLength = 2
+abbrev pub placeRecordLength : ℕ
+placeRecordLength = 2
 
 abbrev pub recordLength : ℕ
-recordLength = placeLength * placeCount
+recordLength = placeRecordLength * placeCount
 
 -- Any two bytes are a place. A case byte above 3 is read as an enforced rule at row 255, which no table has. The row byte of an empty or
 -- fulfilled place is not read.
@@ -28,12 +28,12 @@ abbrev pub caseOf : ℕ → ℕ → Case
 caseOf case row =
     cond (eqb case 0) Empty (cond (eqb case 1) (Enforced row) (cond (eqb case 2) (Watched row) (cond (eqb case 3) Fulfilled (Enforced 255))))
 
-abbrev pub placeOf : ℕ → ℕ → Place
-placeOf case row = placeIn (caseOf case row)
+abbrev pub recordedPlace : ℕ → ℕ → Place
+recordedPlace case row = placeIn (caseOf case row)
 
 -- Place i of a record.
 abbrev pub placeAt : List ℕ → ℕ → Place
-placeAt bytes i = placeOf (getD bytes (placeLength * i) 0) (getD bytes (placeLength * i + 1) 0)
+placeAt bytes i = recordedPlace (getD bytes (placeRecordLength * i) 0) (getD bytes (placeRecordLength * i + 1) 0)
 
 -- Any bytes are a board: those of its places are read, and zeros where there are fewer.
 abbrev pub placesTo : List ℕ → ℕ → List Place
@@ -54,16 +54,16 @@ rowByte (Enforced row) = row
 rowByte (Watched row) = row
 rowByte Fulfilled = 0
 
-abbrev pub placeBytes : Case → List ℕ
-placeBytes case = caseByte case ∷ rowByte case ∷ []
+abbrev pub placeRecord : Case → List ℕ
+placeRecord case = caseByte case ∷ rowByte case ∷ []
 
 -- Numbers of 16 bits whose bytes are those of the first n places.
 abbrev pub WordsTo : List Place → ℕ → List ℕ → Type 0
-WordsTo places n words = (i : ℕ) → i < n → wordBytes (getD words i 0) ≡ placeBytes (caseIn places i)
+WordsTo places n words = (i : ℕ) → i < n → wordBytes (getD words i 0) ≡ placeRecord (caseIn places i)
 
 -- The bytes of a board. Reading back what was written gives the same board (proofs/ReadBack.antt).
 abbrev pub bytesTo : Board → ℕ → List ℕ
-bytesTo board n = joined n (λ i. placeBytes (caseAt board i))
+bytesTo board n = joined n (λ i. placeRecord (caseAt board i))
 
 unfoldable pub recordOf : Board → List ℕ
 recordOf board = bytesTo board placeCount

@@ -11,7 +11,7 @@ ghost use Prim.Native.Nat.{_≤_, _<_};
 ghost use lib.ListN.{length};
 ghost use Rattle.base.specs.Word.{wordBytes};
 ghost use Rattle.places.specs.Layout.{placeCount};
-ghost use Rattle.records.specs.Record.{placeOf, boardOf, caseByte, rowByte, placeBytes, WordsTo, written, recordLength};
+ghost use Rattle.records.specs.Record.{recordedPlace, boardOf, caseByte, rowByte, placeRecord, WordsTo, written, recordLength};
 
 // The bytes of a place, and those of a record.
 const PLACE: usize = 2;
@@ -21,7 +21,7 @@ pub const RECORD: usize = PLACE * PLACES;
 // The place of a case byte up to 3 and a row byte.
 fn known_place(case: u8, row: u8) -> Place
     requires { ⌜ case < 4 ⌝ }
-    ensures { λ r. ⌜ r ≡ placeOf case row ⌝ }
+    ensures { λ r. ⌜ r ≡ recordedPlace case row ⌝ }
 {
     match case {
         0 => Place { case: Case::Empty },
@@ -39,7 +39,7 @@ fn known_place(case: u8, row: u8) -> Place
 
 // The place of two bytes. A case byte above 3 is read as an enforced rule at a row that no table has.
 fn place_of(case: u8, row: u8) -> Place
-    ensures { λ r. ⌜ r ≡ placeOf case row ⌝ }
+    ensures { λ r. ⌜ r ≡ recordedPlace case row ⌝ }
 {
     if case < 4 {
         known_place(case, row)
@@ -90,7 +90,7 @@ fn row_byte(case: Case) -> u8
 
 // The two bytes of a place as one number of 16 bits, the case below the row.
 fn place_word(case: Case) -> u16
-    ensures { λ r. ⌜ wordBytes r ≡ placeBytes case ⌝ }
+    ensures { λ r. ⌜ wordBytes r ≡ placeRecord case ⌝ }
 {
     let low = case_byte(case) as u16;
     let high = row_byte(case) as u16;

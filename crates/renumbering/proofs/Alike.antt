@@ -6,7 +6,7 @@ use Rattle.trace.specs.declared.Mode.{Mode}
 use Rattle.syntax.specs.Faults.{numberOf, spotOf}
 use Rattle.syntax.specs.Formed.{Formed}
 use Rattle.syntax.specs.Nodes.{nodeOf}
-use Rattle.syntax.specs.Types.{typeNode}
+use Rattle.syntax.specs.Types.{typeFrom, typeNode}
 use Rattle.syntax.specs.declared.Fault.{Fault}
 use Rattle.syntax.specs.declared.Fault.the-variants.{WrongTypeAt, BoundAt}
 use Rattle.syntax.specs.declared.NodeType.{NodeType}
@@ -15,9 +15,8 @@ use Rattle.reached.specs.Parts.{Used}
 use Rattle.reached.proofs.NodeSets.{used-below}
 use Rattle.typing.specs.Typed.{Judgement, sound, judgeSheet}
 use Rattle.renumbering.specs.SameUsed.{SameUsed, SameJudgement, both-faulty, both-sound}
-use Rattle.renumbering.specs.FirstFault.{TypedBefore, FirstFault, unfit, too-long, no-policy, WellTyped}
-use Rattle.renumbering.proofs.Numbering.{last-to-last}
-use Rattle.renumbering.proofs.Types.{type-renumbered}
+use Rattle.renumbering.specs.FirstFault.{TypedBefore, FirstFault, unfit, too-long, no-policy, NoFault}
+use Rattle.renumbering.proofs.Numbering.{last-to-last, node-along}
 use Rattle.renumbering.proofs.FirstFault.{one-fault, one-typing, one-mode, no-fault}
 use Rattle.renumbering.proofs.Judged.{Told, at-fault, no-faults, told}
 
@@ -27,7 +26,7 @@ module _ {sheet other : Sheet} (formed : Formed sheet) (formed' : Formed other) 
   along types n = types (same .to n)
 
   found-along : (types : ℕ → NodeType) (n : ℕ) → Used sheet n → typeNode (nodeOf sheet n) (along types) ≡ typeNode (nodeOf other (same .to n)) types
-  found-along types n u = sym (ap (λ node. typeNode node types) (same .nodes n u) ∙ type-renumbered (same .to) types (nodeOf sheet n))
+  found-along types n u = ap typeFrom (sym (node-along same types n u))
 
   before-along : (types : ℕ → NodeType) (n : ℕ) → Used sheet n → TypedBefore other types (same .to n) → TypedBefore sheet (along types) n
   before-along types n v typed i h u = found-along types i u ∙ typed (same .to i) (same .order i n u v h) (same .used i u)
@@ -72,7 +71,7 @@ module _ {sheet other : Sheet} (formed : Formed sheet) (formed' : Formed other) 
         spot = sym (last-to-last formed formed' same);
       }
 
-  typed-along : {mode : Mode} {types : ℕ → NodeType} → WellTyped mode other types → WellTyped mode sheet (along types)
+  typed-along : {mode : Mode} {types : ℕ → NodeType} → NoFault mode other types → NoFault mode sheet (along types)
   typed-along {mode} {types} w = record { each = all-along types (w .each); bound = w .bound; last = last-along types (w .last) }
 
   alike : {j k : Judgement} → Told sheet j → Told other k → SameJudgement same j k

@@ -17,7 +17,7 @@ use Rattle.syntax.specs.declared.TypeFound.the-variants.{Fits, Unfit, TooLong}
 use Rattle.reached.specs.Reached.{itself}
 use Rattle.reached.specs.Parts.{Used}
 use Rattle.reached.proofs.NodeSets.{used-below}
-use Rattle.renumbering.specs.FirstFault.{TypedBefore, FirstFault, unfit, too-long, no-policy, WellTyped}
+use Rattle.renumbering.specs.FirstFault.{TypedBefore, FirstFault, unfit, too-long, no-policy, NoFault}
 use Rattle.renumbering.proofs.Types.{types-agree, found-agree}
 
 -- what is found of a node is no type
@@ -79,10 +79,10 @@ module _ (sheet : Sheet) (formed : Formed sheet) where
     one-typing n u = let h = used-below sheet formed u in types-agree sheet formed typed typed' n h h u
 
   -- A well-typed sheet has one mode, and no fault.
-  pub one-mode : {m k : Mode} {f g : ℕ → NodeType} → WellTyped m sheet f → WellTyped k sheet g → m ≡ k
+  pub one-mode : {m k : Mode} {f g : ℕ → NodeType} → NoFault m sheet f → NoFault k sheet g → m ≡ k
   one-mode w x = let e = one-typing (w .each) (x .each) (sheet .count - 1) itself in cc (w .last, x .last)
 
-  pub no-fault : {A : Type 0} {m : Mode} {types : ℕ → NodeType} {f : Fault} → WellTyped m sheet types → FirstFault sheet f → A
+  pub no-fault : {A : Type 0} {m : Mode} {types : ℕ → NodeType} {f : Fault} → NoFault m sheet types → FirstFault sheet f → A
   no-fault w (unfit T n u b e) = none-stuck (unfit-at u b e) (w .each)
   no-fault w (too-long T n u b e) = none-stuck (long-at u b e) (w .each)
   no-fault w (no-policy T b e) =

@@ -25,7 +25,7 @@ use Rattle.reached.specs.Parts.{Used, usedSet}
 use Rattle.reached.proofs.NodeSets.{used-exactly, used-below}
 use Rattle.typing.specs.Typed.{Typings, mistyped, typed, typeNext, unlessMistyped, typeNodes, Judgement, faulty, sound, judgeLast, judgeTyped, judgeSheet}
 use Rattle.typing.proofs.Sound.{types-of}
-use Rattle.renumbering.specs.FirstFault.{TypedBefore, FirstFault, unfit, too-long, no-policy, WellTyped}
+use Rattle.renumbering.specs.FirstFault.{TypedBefore, FirstFault, unfit, too-long, no-policy, NoFault}
 use Rattle.renumbering.proofs.Types.{fits-typed}
 use Rattle.renumbering.proofs.FirstFault.{one-fault, one-mode, no-fault}
 
@@ -62,7 +62,7 @@ module _ (used : ℕ) (nodes : List ListedNode) where
 -- A judgement of a sheet, in plain statements.
 pub data Told (sheet : Sheet) : Judgement → Type 0 where
   at-fault : (f : Fault) → FirstFault sheet f → Told sheet (faulty f)
-  no-faults : (mode : Mode) (types : List TypedNode) → WellTyped mode sheet (typeAt types) → Told sheet (sound mode sheet types)
+  no-faults : (mode : Mode) (types : List TypedNode) → NoFault mode sheet (typeAt types) → Told sheet (sound mode sheet types)
 
 module _ (sheet : Sheet) (formed : Formed sheet) where
   typed-before : (n : ℕ) → n ≤ sheet .count → (types : List TypedNode) → typeNodes (usedSet sheet) (sheet .nodes) n ≡ typed types
@@ -114,16 +114,16 @@ module _ (sheet : Sheet) (formed : Formed sheet) where
 
   -- It is judged sound of a mode exactly where its used nodes have types and its last one is a policy of the mode.
   pub sound-exactly : (mode : Mode)
-      → ((types : List TypedNode) × (judgeSheet sheet ≡ sound mode sheet types)) ↔ ((types : ℕ → NodeType) × WellTyped mode sheet types)
+      → ((types : List TypedNode) × (judgeSheet sheet ≡ sound mode sheet types)) ↔ ((types : ℕ → NodeType) × NoFault mode sheet types)
   sound-exactly mode = (λ s. (typeAt (s .0), to (s .0) told (s .1)), λ w. from told (w .1))
     where
-      to : (types : List TypedNode) {j : Judgement} → Told sheet j → j ≡ sound mode sheet types → WellTyped mode sheet (typeAt types)
+      to : (types : List TypedNode) {j : Judgement} → Told sheet j → j ≡ sound mode sheet types → NoFault mode sheet (typeAt types)
       to types (at-fault g p) e = absurd (let z : _≡_ {A = ℕ} 0 1 = cc in omega arith)
       to types (no-faults m all w) e =
           let alike : all ≡ types = cc in
           let also : m ≡ mode = cc in
-          subst (λ (k : Mode). WellTyped k sheet (typeAt types)) also (subst (λ (l : List TypedNode). WellTyped m sheet (typeAt l)) alike w)
+          subst (λ (k : Mode). NoFault k sheet (typeAt types)) also (subst (λ (l : List TypedNode). NoFault m sheet (typeAt l)) alike w)
 
-      from : {j : Judgement} {types : ℕ → NodeType} → Told sheet j → WellTyped mode sheet types → (l : List TypedNode) × (j ≡ sound mode sheet l)
+      from : {j : Judgement} {types : ℕ → NodeType} → Told sheet j → NoFault mode sheet types → (l : List TypedNode) × (j ≡ sound mode sheet l)
       from (at-fault g p) w = no-fault sheet formed w p
       from (no-faults m all w') w = (all, ap (λ (k : Mode). sound k sheet all) (one-mode sheet formed w' w))

@@ -10,6 +10,7 @@ use Rattle.base.specs.Sets.{bit}
 use Rattle.base.proofs.Truths.{not-true}
 use Rattle.trace.specs.declared.Mode.the-variants.{Watched}
 use Rattle.syntax.specs.Nodes.{noPropositions, nodeOf}
+use Rattle.syntax.specs.Shape.{shapeOf, withParts}
 use Rattle.syntax.specs.Formed.{PartsBelow, ArgumentFits, Formed}
 use Rattle.syntax.specs.declared.Node.the-variants.{True, Count, Always}
 use Rattle.syntax.specs.declared.Sheet.{Sheet}
@@ -18,7 +19,7 @@ use Rattle.reached.specs.Reached.{itself}
 use Rattle.reached.specs.Parts.{Used, usedSet}
 use Rattle.reached.proofs.NodeSets.{used-exactly, used-below}
 use Rattle.typing.specs.Typed.{sound, judgeSheet}
-use Rattle.renumbering.specs.SameUsed.{renumbered, SameUsed}
+use Rattle.renumbering.specs.SameUsed.{SameUsed}
 
 -- node 0 is the policy
 abbrev pub alone : Sheet
@@ -96,7 +97,7 @@ leftover-same =
       used = λ n u. subst (λ (k : ℕ). Used behindTwo (k + 2)) (sym (only-first u)) itself;
       onto = λ m u. (0, itself, sym (only-last m u));
       order = λ n m u v h. absurd (let e = only-first u in let d = only-first v in omega arith);
-      nodes = λ n u. subst (λ (k : ℕ). nodeOf behindTwo (k + 2) ≡ renumbered (λ i. i + 2) (nodeOf alone k)) (sym (only-first u)) refl;
+      nodes = λ n u. subst (λ (k : ℕ). shapeOf (nodeOf behindTwo (k + 2)) ≡ withParts (λ i. i + 2) (shapeOf (nodeOf alone k))) (sym (only-first u)) refl;
     }
 
 -- The sheet with the ill-typed leftover passes 6 and 7.

@@ -1,19 +1,18 @@
--- Sheets with the same used nodes: the last node goes to the last, and the relation is an equivalence of formed sheets.
+-- Sheets with the same used nodes: the last node goes to the last, order and numbers go back, and a node is the same over its parts.
 -- Assumes nothing.
-use mathlib.Core.Path.{_≡_, refl, ap, _∙_}
-use mathlib.Core.Logic.{inl, inr}
+use mathlib.Core.Path.{_≡_, ap, _∙_}
 use Prim.Native.Nat.{ℕ, _-_, _<_}
 use native.Mathlib.Decide.{decLt}
 use native.Mathlib.Omega.{arith}
 use Rattle.syntax.specs.Formed.{Formed}
 use Rattle.syntax.specs.Nodes.{nodeOf}
-use Rattle.syntax.specs.declared.Node.{Node}
-use Rattle.syntax.specs.declared.Node.the-variants.{True, False, Proposition, Negation, Conjunction, Disjunction, Now, Holds, Count, Not, And, Or, Eventually, Always, BeforeMinus, BeforePlus, AfterMinus, AfterPlus, Fulfilling, Ignoring}
+use Rattle.syntax.specs.Shape.{shapeOf, withParts}
 use Rattle.syntax.specs.declared.Sheet.{Sheet}
+use Rattle.syntax.proofs.EqualParts.{with-parts-twice}
 use Rattle.reached.specs.Reached.{itself, onward}
-use Rattle.reached.specs.Parts.{partsOf, InParts, PartOf, Used}
+use Rattle.reached.specs.Parts.{PartOf, Used}
 use Rattle.reached.proofs.NodeSets.{part-below, used-below}
-use Rattle.renumbering.specs.SameUsed.{renumbered, SameUsed}
+use Rattle.renumbering.specs.SameUsed.{SameUsed}
 
 -- a part of a used node is used, and stands before it
 pub part-used : (sheet : Sheet) → Formed sheet → {n m : ℕ} → Used sheet n → PartOf sheet n m → Used sheet m × (m < n)
@@ -50,26 +49,7 @@ module _ {sheet other : Sheet} (formed : Formed sheet) (formed' : Formed other) 
         | no g ↦ elim (decLt m n) [ yes k ↦ absurd (let l = same .order m n v u k in omega arith) | no k ↦ omega arith ]
       ]
 
--- a node is renumbered by the numbers of its parts alone
-module _ (f g : ℕ → ℕ) where
-  pub renumbered-local : (node : Node) → ((i : ℕ) → InParts (partsOf node) i → f i ≡ g i) → renumbered f node ≡ renumbered g node
-  renumbered-local True same = refl
-  renumbered-local False same = refl
-  renumbered-local (Proposition p) same = refl
-  renumbered-local (Negation a) same = rw (same a refl)
-  renumbered-local (Conjunction a b) same = rw (same a (inl refl), same b (inr refl))
-  renumbered-local (Disjunction a b) same = rw (same a (inl refl), same b (inr refl))
-  renumbered-local (Now a) same = rw (same a refl)
-  renumbered-local (Holds a) same = rw (same a refl)
-  renumbered-local (Count k) same = refl
-  renumbered-local (Not a) same = rw (same a refl)
-  renumbered-local (And a b) same = rw (same a (inl refl), same b (inr refl))
-  renumbered-local (Or a b) same = rw (same a (inl refl), same b (inr refl))
-  renumbered-local (Eventually a) same = rw (same a refl)
-  renumbered-local (Always a) same = rw (same a refl)
-  renumbered-local (BeforeMinus a b) same = rw (same a (inl refl), same b (inr refl))
-  renumbered-local (BeforePlus a b) same = rw (same a (inl refl), same b (inr refl))
-  renumbered-local (AfterMinus a b) same = rw (same a (inl refl), same b (inr refl))
-  renumbered-local (AfterPlus a b) same = rw (same a (inl refl), same b (inr refl))
-  renumbered-local (Fulfilling k a b c) same = rw (same a (inl refl), same b (inr (inl refl)), same c (inr (inr refl)))
-  renumbered-local (Ignoring a b) same = rw (same a (inl refl), same b (inr refl))
+-- a used node of the other sheet, over parts of any type, is the node of the first over the parts of the new numbers
+pub node-along : {sheet other : Sheet} (same : SameUsed sheet other) {X : Type 0} (f : ℕ → X) (n : ℕ) → Used sheet n
+    → withParts f (shapeOf (nodeOf other (same .to n))) ≡ withParts (λ i. f (same .to i)) (shapeOf (nodeOf sheet n))
+node-along {sheet} same f n u = ap (withParts f) (same .nodes n u) ∙ with-parts-twice f (same .to) (shapeOf (nodeOf sheet n))

@@ -1,6 +1,6 @@
--- The types of used nodes: renumbering keeps them, and a sheet has one choice of them.
+-- The types of used nodes: what fits has a type, and a sheet has one choice of types.
 -- Assumes nothing.
-use mathlib.Core.Path.{_≡_, refl}
+use mathlib.Core.Path.{_≡_, ap}
 use mathlib.Core.Bool.{Bool, true, false, cond}
 use Prim.Native.Nat.{ℕ, zero, suc, _≤_, _<_}
 use native.Mathlib.Nat.{lt-suc-self}
@@ -10,7 +10,7 @@ use Rattle.policy.specs.declared.Typing.the-variants.{Typed, Untyped}
 use Rattle.policy.specs.Typing.{alikeTyped, typeNow, typeHolds, typeCount, typeNot, typeEventually, typeAlways, typeBefore-, typeBefore+, typeAfter-, typeAfter+, typeFulfilling, typeIgnoring}
 use Rattle.syntax.specs.Formed.{Formed}
 use Rattle.syntax.specs.Nodes.{nodeOf}
-use Rattle.syntax.specs.Types.{typingOf, boundFits, found, typeNode}
+use Rattle.syntax.specs.Types.{typingOf, boundFits, found, typeFrom, typeNode}
 use Rattle.syntax.specs.declared.Node.{Node}
 use Rattle.syntax.specs.declared.Node.the-variants.{True, False, Proposition, Negation, Conjunction, Disjunction, Now, Holds, Count, Not, And, Or, Eventually, Always, BeforeMinus, BeforePlus, AfterMinus, AfterPlus, Fulfilling, Ignoring}
 use Rattle.syntax.specs.declared.NodeType.{NodeType}
@@ -19,33 +19,9 @@ use Rattle.syntax.specs.declared.Sheet.{Sheet}
 use Rattle.syntax.specs.declared.TypeFound.the-variants.{Fits, TooLong}
 use Rattle.syntax.proofs.NodeTypes.{unfit, from-formula}
 use Rattle.reached.specs.Parts.{Used}
-use Rattle.typing.proofs.PartTypes.{type-of-parts}
-use Rattle.renumbering.specs.SameUsed.{renumbered}
+use Rattle.reached.proofs.NodeParts.{over-equal}
 use Rattle.renumbering.specs.FirstFault.{TypedBefore}
 use Rattle.renumbering.proofs.Numbering.{part-used}
-
--- a renumbered node has the type of the node, with its parts' types looked up by their new numbers
-pub type-renumbered : (to : ℕ → ℕ) (types : ℕ → NodeType) (node : Node) → typeNode (renumbered to node) types ≡ typeNode node (λ i. types (to i))
-type-renumbered to types True = refl
-type-renumbered to types False = refl
-type-renumbered to types (Proposition p) = refl
-type-renumbered to types (Negation a) = refl
-type-renumbered to types (Conjunction a b) = refl
-type-renumbered to types (Disjunction a b) = refl
-type-renumbered to types (Now a) = refl
-type-renumbered to types (Holds a) = refl
-type-renumbered to types (Count k) = refl
-type-renumbered to types (Not a) = refl
-type-renumbered to types (And a b) = refl
-type-renumbered to types (Or a b) = refl
-type-renumbered to types (Eventually a) = refl
-type-renumbered to types (Always a) = refl
-type-renumbered to types (BeforeMinus a b) = refl
-type-renumbered to types (BeforePlus a b) = refl
-type-renumbered to types (AfterMinus a b) = refl
-type-renumbered to types (AfterPlus a b) = refl
-type-renumbered to types (Fulfilling k a b c) = refl
-type-renumbered to types (Ignoring a b) = refl
 
 -- what fits has a type
 formula-typed : Fits Formula ≡ Fits Unused → ⊥
@@ -90,8 +66,8 @@ module _ (sheet : Sheet) (formed : Formed sheet) {f g : ℕ → NodeType} {n m :
   agree-below : (k i : ℕ) → i < k → i < n → i < m → Used sheet i → f i ≡ g i
   agree-below zero i h p q u = absurd (omega arith)
   agree-below (suc k) i h p q u =
-      let e = type-of-parts f g (nodeOf sheet i)
-      (λ j part. let b = part-used sheet formed u part in agree-below k j (omega (arith, b .1)) (omega (arith, b .1)) (omega (arith, b .1)) (b .0)) in
+      let e = ap typeFrom (over-equal f g (nodeOf sheet i)
+      (λ j part. let b = part-used sheet formed u part in agree-below k j (omega (arith, b .1)) (omega (arith, b .1)) (omega (arith, b .1)) (b .0))) in
       cc (typed i p u, typed' i q u)
 
   pub types-agree : (i : ℕ) → i < n → i < m → Used sheet i → f i ≡ g i
@@ -100,5 +76,5 @@ module _ (sheet : Sheet) (formed : Formed sheet) {f g : ℕ → NodeType} {n m :
   -- and so does what is found of the next one
   pub found-agree : (i : ℕ) → i ≤ n → i ≤ m → Used sheet i → typeNode (nodeOf sheet i) f ≡ typeNode (nodeOf sheet i) g
   found-agree i p q u =
-      type-of-parts f g (nodeOf sheet i)
-      (λ j part. let b = part-used sheet formed u part in types-agree j (omega (arith, b .1)) (omega (arith, b .1)) (b .0))
+      ap typeFrom (over-equal f g (nodeOf sheet i)
+      (λ j part. let b = part-used sheet formed u part in types-agree j (omega (arith, b .1)) (omega (arith, b .1)) (b .0)))

@@ -32,7 +32,7 @@ pub data FirstFault (sheet : Sheet) : Fault → Type 0 where
       → FirstFault sheet (WrongTypeAt (sheet .count - 1))
 
 -- No fault: every used node has its type, and the last one is a policy of the mode.
-pub record WellTyped (mode : Mode) (sheet : Sheet) (types : ℕ → NodeType) : Type 0 where
+pub record NoFault (mode : Mode) (sheet : Sheet) (types : ℕ → NodeType) : Type 0 where
   pub each : TypedBefore sheet types (sheet .count)
   pub bound : Bound
   pub last : types (sheet .count - 1) ≡ Policy mode bound

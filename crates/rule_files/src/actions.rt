@@ -6,9 +6,11 @@ use crate::words::digit;
 use crate::words::find;
 use crate::words::is_plain;
 use crate::words::pass_blanks;
-use crate::words::same;
 use crate::words::word_behind;
 use crate::words::word_end;
+use grammar::Token;
+use lexer::same;
+use lexer::token_of;
 ghost use mathlib.Core.Path.{_≡_};
 ghost use Prim.Native.Nat.{_≤_};
 ghost use lib.ListN.{length};
@@ -29,17 +31,13 @@ enum Action {
 
 // The number of a proposition, p0 to p15; 100 where the word is none.
 fn proposition(word: &[u8]) -> u8 {
-    if word.len() == 2 {
-        if word[0] == b'p' {
-            return digit(word[1]);
-        }
+    if word.len() == 0 {
+        return 100;
     }
-    if word.len() == 3 {
-        if (word[0] == b'p') & (word[1] == b'1') & (word[2] <= b'5') {
-            return 10 + digit(word[2]);
-        }
+    match token_of(word) {
+        Token::Proposition(p) => p,
+        _ => 100,
     }
-    100
 }
 
 // The set of one proposition.

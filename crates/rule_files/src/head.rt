@@ -1,8 +1,8 @@
 // The first line of a rule file.
 use crate::actions::read_actions;
 use crate::parts::line_behind;
+use crate::refusals::refuse_action;
 use crate::refusals::refuse_actions;
-use crate::refusals::tell_no_action;
 use crate::words::find;
 ghost use Prim.Native.Nat.{_≤_};
 ghost use lib.ListN.{length};
@@ -19,9 +19,8 @@ fn refused() -> Head
     Head { count: 0, start: 0 }
 }
 
-// Reads the action list of a rule file to the front of `sets`, and tells what is refused of it. The list is the line of this number, 1 or 2, of what the
-// program reads.
-pub fn read_head(file: &[u8], line: usize, sets: &mut [u16]) -> Head
+// Reads the action list of a rule file to the front of `sets`, and tells what is refused of it.
+pub fn read_head(file: &[u8], sets: &mut [u16]) -> Head
     ensures { λ r. ⌜ (r .count ≤ 16) × (r .start ≤ length (now (file .entry))) ⌝ }
 {
     let end = find(file, 0, 10);
@@ -31,15 +30,15 @@ pub fn read_head(file: &[u8], line: usize, sets: &mut [u16]) -> Head
     let to = listed.to;
     let count = listed.count;
     if from < to {
-        tell_no_action(&list[from..to], count, listed.doubled, line);
+        refuse_action(&list[from..to], count, listed.doubled);
         return refused();
     }
     if count == 0 {
-        refuse_actions(count, line);
+        refuse_actions(count);
         return refused();
     }
     if 16 < count {
-        refuse_actions(count, line);
+        refuse_actions(count);
         return refused();
     }
     Head {

@@ -41,7 +41,7 @@ fn shown(length: usize) -> usize
     if 40 < length { 40 } else { length }
 }
 
-// A word in quotes, cut behind 40 bytes.
+// A word in quotes, cut after 40 bytes.
 pub fn say_word(word: &[u8]) {
     say(b"\"");
     let mut k = 0;
@@ -54,19 +54,4 @@ pub fn say_word(word: &[u8]) {
         say(b"..");
     }
     say(b"\"");
-}
-
-// How many words or actions stand before what is told of.
-pub fn say_behind(count: usize, what: &[u8]) {
-    if count == 0 {
-        say(b"at the start");
-        return;
-    }
-    say(b"behind ");
-    say_number(count);
-    say(b" ");
-    say(what);
-    if 1 < count {
-        say(b"s");
-    }
 }

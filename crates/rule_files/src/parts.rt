@@ -1,9 +1,9 @@
-// The rules of a file: they are parted by lines that have the one word `---`.
+// The rules of a file: they are separated by lines that have the one word `---`.
 use crate::words::find;
 use crate::words::newlines;
 use crate::words::pass_blanks;
-use crate::words::same;
 use crate::words::word_behind;
+use lexer::same;
 ghost use Prim.Native.Nat.{_≤_};
 ghost use lib.ListN.{length};
 
@@ -20,7 +20,7 @@ pub struct Part {
     pub place: Place,
 }
 
-// Whether a line parts two rules.
+// Whether a line separates two rules.
 fn parts_rules(line: &[u8]) -> bool {
     let span = word_behind(line, 0);
     let from = span.from;
@@ -28,7 +28,7 @@ fn parts_rules(line: &[u8]) -> bool {
     same(&line[from..to], b"---") & (pass_blanks(line, to) == line.len())
 }
 
-// Where the rule ends that begins here: at a line that parts it from the next one, or with the file.
+// Where the rule ends that begins here: at a line that separates it from the next one, or with the file.
 fn rule_end(file: &[u8], from: usize) -> usize
     requires { ⌜ from ≤ length (now file) ⌝ }
     ensures { λ r. ⌜ (from ≤ r) × (r ≤ length (now (file .entry))) ⌝ }
@@ -56,12 +56,12 @@ pub fn line_behind(file: &[u8], at: usize) -> usize
     if end < file.len() { end + 1 } else { end }
 }
 
-// The line of a position, where the file begins on line 1 or 2 of what the program reads.
-fn line_of(file: &[u8], at: usize, line: usize) -> usize
-    requires { ⌜ (at ≤ length (now file)) × (length (now file) ≤ 65535) × (line ≤ 2) ⌝ }
+// The line of a position, from 1.
+fn line_of(file: &[u8], at: usize) -> usize
+    requires { ⌜ (at ≤ length (now file)) × (length (now file) ≤ 65535) ⌝ }
     ensures { λ r. ⌜ r ≤ 65537 ⌝ }
 {
-    line + newlines(file, at)
+    1 + newlines(file, at)
 }
 
 // The number of a rule, 0 where it is the first and the last.
@@ -70,8 +70,8 @@ fn told_number(rule: usize, last: bool) -> usize {
 }
 
 // The rule of this number that begins here.
-pub fn part_from(file: &[u8], from: usize, rule: usize, line: usize) -> Part
-    requires { ⌜ (from ≤ length (now file)) × (length (now file) ≤ 65535) × (line ≤ 2) ⌝ }
+pub fn part_from(file: &[u8], from: usize, rule: usize) -> Part
+    requires { ⌜ (from ≤ length (now file)) × (length (now file) ≤ 65535) ⌝ }
     ensures { λ r. ⌜ (from ≤ r .to) × (r .to ≤ length (now (file .entry))) × (r .place .line ≤ 65537) ⌝ }
 {
     let to = rule_end(file, from);
@@ -81,7 +81,7 @@ pub fn part_from(file: &[u8], from: usize, rule: usize, line: usize) -> Part
         last,
         place: Place {
             rule: told_number(rule, last),
-            line: line_of(file, from, line),
+            line: line_of(file, from),
         },
     }
 }

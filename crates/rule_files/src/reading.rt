@@ -4,16 +4,16 @@ use crate::parts::Place;
 use crate::refusals::tell_long;
 use crate::refusals::tell_nodes;
 use crate::refusals::tell_unreadable;
-use text_reader::TextRead;
+use parser::TextRead;
 ghost use Prim.Native.Nat.{_≤_};
 ghost use lib.ListN.{length};
 
-// Reads a text under an action list of 1 to 16 actions to a sheet at the front of `sheet`, and answers its length. Where the text is refused tells why,
+// Reads a text under an action list of 1 to 16 actions, which is written in a line, to a sheet at the front of `sheet`, and answers its length. Where the text is refused tells why,
 // and answers 0.
-pub fn read_rule(text: &[u8], place: Place, actions: &[u16], sheet: &mut [u8]) -> usize
+pub fn read_rule(text: &[u8], place: Place, actions: &[u16], list: &[u8], sheet: &mut [u8]) -> usize
     requires { ⌜ (length (now text) ≤ 65535) × (place .line ≤ 65537) ⌝ }
 {
-    match text_reader::read_text(text, actions, sheet) {
+    match parser::read_text(text, actions, sheet) {
         TextRead::Sheet {
             length,
             actions: _,
@@ -27,7 +27,7 @@ pub fn read_rule(text: &[u8], place: Place, actions: &[u16], sheet: &mut [u8]) -
         }
         TextRead::Unreadable(words, expected) => {
             say_refusal(32, words);
-            tell_unreadable(text, place, words, expected);
+            tell_unreadable(text, place, words, expected, list);
         }
         TextRead::TooManyNodes => {
             say_refusal(33, 0);

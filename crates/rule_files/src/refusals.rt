@@ -1,89 +1,91 @@
 // What a refusal of the file or of the text means, and what to do.
+use crate::actions::action_named;
+use crate::actions::is_name;
 use crate::output::say;
-use crate::output::say_behind;
 use crate::output::say_number;
 use crate::output::say_refusal;
 use crate::output::say_word;
 use crate::parts::Place;
+use crate::rooms::front;
+use crate::rooms::room_for_text;
 use crate::words::find;
-use crate::words::is_plain;
 use crate::words::newlines;
-use crate::words::same;
 use crate::words::word_behind;
 use grammar::Category;
+use rule_messages::Misfit;
+use rule_messages::add_expected;
+use rule_messages::add_misfit;
+use rule_messages::add_place;
+use rule_messages::misfit_of;
 ghost use Prim.Native.Nat.{_≤_};
 ghost use lib.ListN.{length};
 
-// The line of this number, 1 or 2, of what the program reads.
-fn say_line(line: usize) {
-    if line == 1 {
-        say(b"the first line");
-        return;
-    }
-    say(b"the second line");
-}
-
-// What the first line of a rule file is to be.
-fn say_list(line: usize) {
-    say_line(line);
-    say(
-        b" lists the actions, parted by blanks: each is the propositions that hold of it, p0 to p15, joined by + (p0+p2), or - where none does\n",
-    );
+// The number of what comes after so many, from 1.
+pub fn following(count: usize) -> usize
+    ensures { λ r. ⌜ r ≤ 1000000 ⌝ }
+{
+    if count < 1000000 { count + 1 } else { 1000000 }
 }
 
 // What a name is to be.
 pub fn say_naming() {
-    say(
-        b"a name is of small letters and digits, begins with a letter, and is no p with a digit behind it\n",
-    );
+    say(b"a name is of small letters and digits, begins with a letter, and is not p and a digit\n");
 }
 
-// Whether a word ends as lines do under Windows, and if so says it.
-pub fn say_return(word: &[u8]) -> bool {
-    let length = word.len();
-    if length == 0 {
-        return false;
+// What a word has in it that no word has: a byte that cannot be seen, a bracket, a capital letter. Nothing where it has none.
+pub fn say_bytes(word: &[u8]) {
+    let misfit = misfit_of(word, Category::Text, false);
+    match misfit {
+        Misfit::Return
+        | Misfit::Tab
+        | Misfit::Mark
+        | Misfit::WideSpace
+        | Misfit::Bracket
+        | Misfit::Capital => {
+            let mut room = room_for_text();
+            let end = add_misfit(misfit, word, &mut room, 0);
+            say(front(&room, end));
+        }
+        _ => {}
     }
-    if word[length - 1] != 13 {
-        return false;
-    }
-    say(b": \\x0d is a carriage return; save the file with newlines alone");
-    true
 }
 
-// A word of the action list, behind so many actions, is none, or has the name of one of them.
-pub fn tell_no_action(word: &[u8], behind: usize, doubled: bool, line: usize) {
-    say(b"action list: ");
-    say_behind(behind, b"action");
+// 2: a word of the action list, after so many actions, is none, or has the name of one of them.
+pub fn refuse_action(word: &[u8], behind: usize, doubled: bool) {
+    say_refusal(2, 0);
+    say(b"line 1, word ");
+    say_number(following(behind));
     say(b": ");
     say_word(word);
     if doubled {
-        say(b" has the name of an action before it\n");
+        say(b" has the name of an action before it: each action has its own name\n");
         return;
     }
-    say(b" is no action");
-    say_return(word);
-    say(b"\n");
-    say_list(line);
+    say(b" is not an action\n");
+    say_bytes(word);
+    say(
+        b"an action is the propositions that hold of it, p0 to p15, joined by + (p0+p2), or - where none holds; its name may stand before them (gas=p4)\n",
+    );
     if find(word, 0, b'=') < word.len() {
-        say(b"the action's name may stand before them, joined by = (charge=p0): ");
         say_naming();
     }
 }
 
 // 2: no action, or too many.
-pub fn refuse_actions(count: usize, line: usize) {
+pub fn refuse_actions(count: usize) {
     say_refusal(2, 0);
     if count == 0 {
-        say_line(line);
-        say(b" lists no action\n");
-        say_list(line);
+        say(
+            b"line 1 lists no action: write the actions there, separated by spaces, and the rule from line 2 on\n",
+        );
+        say(
+            b"an action is the propositions that hold of it, p0 to p15, joined by + (p0+p2), or - where none holds; its name may stand before them (gas=p4)\n",
+        );
         return;
     }
-    say_line(line);
-    say(b" lists ");
+    say(b"line 1 lists ");
     say_number(count);
-    say(b" actions, and 16 are the most: take some away\n");
+    say(b" actions, and 16 are the most: remove some\n");
 }
 
 // Which rule is told of, where there are several.
@@ -99,7 +101,7 @@ pub fn say_rule(rule: usize, behind: &[u8]) {
 // 2: more rules than a file can have.
 pub fn tell_rules() {
     say(
-        b"the file has over 8 rules, and 8 are the most: put the others into a second file, and on a second place\n",
+        b"the file has more than 8 rules, and 8 are the most: put the others into a second file, and on a second place\n",
     );
 }
 
@@ -117,37 +119,33 @@ pub fn tell_long(length: usize, place: Place) {
     say_rule(place.rule, b": ");
     say(b"the rule has ");
     say_number(length);
-    say(b" bytes, and 1024 are the most: shorten it, or split it over several places\n");
+    say(b" bytes, and 1024 are the most: shorten it, or split it into rules on several places\n");
 }
 
 // 31, of a file with over 65,535 bytes.
 pub fn refuse_long_file() {
     say_refusal(31, 0);
-    say(
-        b"the file has over 65535 bytes, and a rule 1024 at the most: shorten it, or split it over several places\n",
-    );
+    say(b"the file has more than 65535 bytes, and a rule 1024 at the most: shorten it\n");
 }
 
 // 33.
 pub fn tell_nodes(place: Place) {
     say_rule(place.rule, b": ");
     say(
-        b"the rule has over 64 nodes, which are its words but for the first one and the numbers: shorten it, or split it over several places\n",
+        b"the rule has more than 64 nodes, which are its words except the first and the numbers: shorten it, or split it into rules on several places\n",
     );
 }
 
-// Where a word of the rule stands. The place has the line on which the text begins.
+// Where a word of the rule stands, after so many. The place has the line on which the text begins.
 pub fn say_spot(text: &[u8], place: Place, words: usize)
     requires { ⌜ (length (now text) ≤ 65535) × (place .line ≤ 65537) ⌝ }
 {
     let span = word_behind(text, words);
     let from = span.from;
-    say_rule(place.rule, b", ");
-    say(b"line ");
-    say_number(place.line + newlines(text, from));
-    say(b", ");
-    say_behind(words, b"word");
-    say(b" of the rule: ");
+    let line = place.line + newlines(text, from);
+    let mut room = room_for_text();
+    let end = add_place(place.rule, line, following(words), &mut room, 0);
+    say(front(&room, end));
 }
 
 // The same, and the word.
@@ -161,86 +159,36 @@ pub fn say_place(text: &[u8], place: Place, words: usize)
     say_word(&text[from..to]);
 }
 
-// The words that can stand where one does not fit.
-fn say_expected(expected: Category) {
-    match expected {
-        Category::Text => say(b"here the rule is to begin: watch, enforce\n"),
-        Category::Watched => say(
-            b"here a watched policy is to come: now, count, not, and, or, eventually, before, after, ignoring\n",
-        ),
-        Category::Enforced => say(
-            b"here an enforced policy is to come: holds, not, and, or, always, before, after, fulfilling, ignoring\n",
-        ),
-        Category::Formula => say(
-            b"here a formula is to come: true, false, p0 to p15, not, and, or\n",
-        ),
-        Category::Number => say(b"here a number is to come: 1 to 60, without leading zero\n"),
-        Category::End => say(b"here the rule is to end\n"),
-    }
+// Whether a word is the name of an action of a list.
+fn is_action(list: &[u8], word: &[u8]) -> bool {
+    is_name(word) & (action_named(list, word) < 255)
 }
 
-fn is_watched(word: &[u8]) -> bool {
-    same(word, b"now") | same(word, b"count") | same(word, b"eventually")
+// What the name of an action stands for.
+fn say_named(list: &[u8], name: &[u8]) {
+    let span = word_behind(list, base::byte(action_named(list, name)));
+    let from = span.from;
+    let to = span.to;
+    say(b"the action list has ");
+    say(&list[from..to]);
+    say(b": write its proposition in the rule; for two, p0+p2, write: and p0 p2\n");
 }
 
-fn is_enforced(word: &[u8]) -> bool {
-    same(word, b"holds") | same(word, b"always") | same(word, b"fulfilling")
-}
-
-// Why a word does not fit, where there is more to say.
-fn say_why(word: &[u8], expected: Category) {
-    if say_return(word) {
-        return;
-    }
-    if !is_plain(word) {
-        say(b": words are of small letters and digits, parted by blanks or newlines");
-        return;
-    }
-    match expected {
-        Category::Enforced => {
-            if is_watched(word) {
-                say(b": it can be watched, and not enforced");
-            }
-        }
-        Category::Watched => {
-            if is_enforced(word) {
-                say(b": it can be enforced, and not watched");
-            }
-        }
-        _ => {}
-    }
-}
-
-fn tell_misfit(word: &[u8], expected: Category) {
-    if same(word, b"---") {
-        say(b" parts two rules, and is to stand on a line of its own\n");
-        return;
-    }
-    if let Category::End = expected {
-        say(b" stands behind a whole rule: take it away\n");
-        return;
-    }
-    say(b" does not fit");
-    say_why(word, expected);
-    say(b"\n");
-    say_expected(expected);
-}
-
-// 32, behind so many words.
-pub fn tell_unreadable(text: &[u8], place: Place, words: usize, expected: Category)
+// 32, after so many words. The file's actions are listed.
+pub fn tell_unreadable(text: &[u8], place: Place, words: usize, expected: Category, list: &[u8])
     requires { ⌜ (length (now text) ≤ 65535) × (place .line ≤ 65537) ⌝ }
 {
     let span = word_behind(text, words);
     let from = span.from;
     let to = span.to;
-    if from == to {
-        say_rule(place.rule, b": ");
-        say(b"the text ends too soon, ");
-        say_behind(words, b"word");
-        say(b"\n");
-        say_expected(expected);
-        return;
+    let named = is_action(list, &text[from..to]);
+    let misfit = misfit_of(&text[from..to], expected, named);
+    let mut room = room_for_text();
+    let at = add_misfit(misfit, &text[from..to], &mut room, 0);
+    let end = add_expected(expected, &mut room, at);
+    say_spot(text, place, words);
+    say(front(&room, end));
+    if named {
+        say_named(list, &text[from..to]);
     }
-    say_place(text, place, words);
-    tell_misfit(&text[from..to], expected);
 }

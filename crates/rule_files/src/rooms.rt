@@ -26,6 +26,12 @@ pub fn room_for_values() -> [u64; 1024]
     [0u64; 1024]
 }
 
+pub fn room_for_text() -> [u8; 1024]
+    ensures { λ r. ⌜ 1024 ≡ length r ⌝ }
+{
+    [0u8; 1024]
+}
+
 // The first bytes of an area, as many as there are.
 pub fn front(bytes: &[u8], count: usize) -> &[u8] {
     if bytes.len() < count {

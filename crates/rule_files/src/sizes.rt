@@ -12,19 +12,25 @@ fn tell_size(text: &[u8], place: Place, sheet: &[u8], node: usize, grown: &[u8])
 {
     say_place(text, place, words_before(sheet, node));
     say(grown);
-    say(b"simplify what begins there, or split the rule over several places\n");
+    say(b"simplify what begins there, or split it into rules on several places\n");
 }
 
 // 8.
 pub fn tell_values(text: &[u8], place: Place, sheet: &[u8], node: usize)
     requires { ⌜ (length (now text) ≤ 65535) × (place .line ≤ 65537) ⌝ }
 {
-    tell_size(text, place, sheet, node, b" remembers over 1024 values\n");
+    tell_size(
+        text,
+        place,
+        sheet,
+        node,
+        b" remembers more than 1024 values\n",
+    );
 }
 
 // 9.
 pub fn tell_rows(text: &[u8], place: Place, sheet: &[u8], node: usize)
     requires { ⌜ (length (now text) ≤ 65535) × (place .line ≤ 65537) ⌝ }
 {
-    tell_size(text, place, sheet, node, b" needs over 64 rows\n");
+    tell_size(text, place, sheet, node, b" needs more than 64 rows\n");
 }

@@ -43,7 +43,7 @@ pub fn word_end(text: &[u8], at: usize) -> usize
     k
 }
 
-// The word behind the first n.
+// The word after the first n.
 pub fn word_behind(text: &[u8], n: usize) -> Span
     ensures { λ r. ⌜ (r .from ≤ r .to) × (r .to ≤ length (now (text .entry))) ⌝ }
 {
@@ -89,21 +89,6 @@ pub fn newlines(text: &[u8], to: usize) -> usize
         k += 1;
     }
     found
-}
-
-// Whether two words are the same.
-pub fn same(word: &[u8], other: &[u8]) -> bool {
-    if word.len() != other.len() {
-        return false;
-    }
-    let mut k = 0;
-    while k < word.len() {
-        if word[k] != other[k] {
-            return false;
-        }
-        k += 1;
-    }
-    true
 }
 
 // The digit that a byte is; 100 where it is none.

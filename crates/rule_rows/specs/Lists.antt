@@ -4,6 +4,9 @@ use mathlib.Core.Path.{_≡_}
 use mathlib.Core.List.{List}
 use Prim.Native.Nat.{ℕ, suc, _≤_, _<_}
 use lib.ListN.{length}
+use Rattle.limits.specs.Lengths.{workLength, numbersLength}
+use Rattle.limits.specs.Limits.{InRange}
+use Rattle.limits.specs.declared.Limits.{Limits}
 use Rattle.policy.specs.Parts.{AllParts}
 use Rattle.rules.specs.Rules.{slotAt, ruleAt, ruleOver, EarlierRule}
 use Rattle.rules.specs.Steps.{codeStep, codeStart}
@@ -17,52 +20,49 @@ use Rattle.rule_rows.specs.declared.AllBuilt.{AllBuilt}
 use Rattle.rule_rows.specs.declared.AllBuilt.the-variants.{Rows, ValuesAt, RowsAt}
 
 -- What building a list is lent: at most 64 nodes, each rule over earlier rules, limits in their ranges, and room.
-pub record AllBuildable (rules : List RuleAt) (count actions valueLimit rowLimit : ℕ) (work values : List ℕ) : Type 0 where
+pub record AllBuildable (rules : List RuleAt) (count actions : ℕ) (limits : Limits) (work values : List ℕ) : Type 0 where
   pub few : count ≤ 64
   pub parts : (n : ℕ) → n < count → (rule : NodeRule) → ruleAt rules n ≡ AsRule rule → AllParts (EarlierRule rules n) (ruleOver rule)
   pub actions-low : 1 ≤ actions
   pub actions-high : actions ≤ 16
-  pub value-low : 1 ≤ valueLimit
-  pub value-high : valueLimit ≤ 1024
-  pub row-low : 1 ≤ rowLimit
-  pub row-high : rowLimit ≤ 64
-  pub room : 65536 ≤ length work
-  pub space : 1024 ≤ length values
+  pub range : InRange limits
+  pub room : workLength ≤ length work
+  pub space : numbersLength ≤ length values
 
 -- The slot of a rule is built, over the slots of its parts in the same work area.
-abbrev pub RuleBuilt : (actions valueLimit rowLimit : ℕ) → List ℕ → ℕ → NodeRule → Type 0
-RuleBuilt actions valueLimit rowLimit work i rule =
-    SlotBuilt actions (codeStep actions work rule) (codeStart actions work rule) valueLimit rowLimit (slotAt work i)
+abbrev pub RuleBuilt : (actions : ℕ) (limits : Limits) → List ℕ → ℕ → NodeRule → Type 0
+RuleBuilt actions limits work i rule =
+    SlotBuilt actions (codeStep actions work rule) (codeStart actions work rule) limits (slotAt work i)
 
 -- Each rule before n is built.
-pub record BuiltTo (rules : List RuleAt) (actions valueLimit rowLimit n : ℕ) (work : List ℕ) : Type 0 where
-  pub each : (i : ℕ) → i < n → (rule : NodeRule) → ruleAt rules i ≡ AsRule rule → RuleBuilt actions valueLimit rowLimit work i rule
+pub record BuiltTo (rules : List RuleAt) (actions : ℕ) (limits : Limits) (n : ℕ) (work : List ℕ) : Type 0 where
+  pub each : (i : ℕ) → i < n → (rule : NodeRule) → ruleAt rules i ≡ AsRule rule → RuleBuilt actions limits work i rule
 
 -- Where the node before n is a rule, its slot is built with so many rows.
-pub record LastRows (rules : List RuleAt) (actions valueLimit rowLimit n rows : ℕ) (work : List ℕ) : Type 0 where
+pub record LastRows (rules : List RuleAt) (actions : ℕ) (limits : Limits) (n rows : ℕ) (work : List ℕ) : Type 0 where
   pub newest : (m : ℕ) → n ≡ suc m → (rule : NodeRule) → ruleAt rules m ≡ AsRule rule
-      → (b : RuleBuilt actions valueLimit rowLimit work m rule) × (b .rows ≡ rows)
+      → (b : RuleBuilt actions limits work m rule) × (b .rows ≡ rows)
 
 -- The rules before n are built, and n is a rule whose machine has too many values.
-pub record ValuesOver (rules : List RuleAt) (count actions valueLimit rowLimit n : ℕ) (work : List ℕ) : Type 0 where
+pub record ValuesOver (rules : List RuleAt) (count actions : ℕ) (limits : Limits) (n : ℕ) (work : List ℕ) : Type 0 where
   pub inside : n < count
-  pub earlier : BuiltTo rules actions valueLimit rowLimit n work
+  pub earlier : BuiltTo rules actions limits n work
   pub rule : NodeRule
   pub is : ruleAt rules n ≡ AsRule rule
-  pub over : OverReached actions (codeStep actions work rule) (codeStart actions work rule) valueLimit
+  pub over : OverReached actions (codeStep actions work rule) (codeStart actions work rule) (limits .values)
 
 -- As above, with values inside the limit, and too many rows.
-pub record RowsOver (rules : List RuleAt) (count actions valueLimit rowLimit n : ℕ) (work : List ℕ) : Type 0 where
+pub record RowsOver (rules : List RuleAt) (count actions : ℕ) (limits : Limits) (n : ℕ) (work : List ℕ) : Type 0 where
   pub inside : n < count
-  pub earlier : BuiltTo rules actions valueLimit rowLimit n work
+  pub earlier : BuiltTo rules actions limits n work
   pub rule : NodeRule
   pub is : ruleAt rules n ≡ AsRule rule
-  pub few-values : OverReached actions (codeStep actions work rule) (codeStart actions work rule) valueLimit → ⊥
-  pub over : OverStates actions (codeStep actions work rule) (codeStart actions work rule) rowLimit
+  pub few-values : OverReached actions (codeStep actions work rule) (codeStart actions work rule) (limits .values) → ⊥
+  pub over : OverStates actions (codeStep actions work rule) (codeStart actions work rule) (limits .rows)
 
 -- What building a list answers.
-abbrev pub FinishesTo : List RuleAt → (count actions valueLimit rowLimit : ℕ) → AllBuilt → List ℕ → Type 0
-FinishesTo rules count actions valueLimit rowLimit (Rows last) work =
-    BuiltTo rules actions valueLimit rowLimit count work × LastRows rules actions valueLimit rowLimit count last work
-FinishesTo rules count actions valueLimit rowLimit (ValuesAt n) work = ValuesOver rules count actions valueLimit rowLimit n work
-FinishesTo rules count actions valueLimit rowLimit (RowsAt n) work = RowsOver rules count actions valueLimit rowLimit n work
+abbrev pub FinishesTo : List RuleAt → (count actions : ℕ) (limits : Limits) → AllBuilt → List ℕ → Type 0
+FinishesTo rules count actions limits (Rows last) work =
+    BuiltTo rules actions limits count work × LastRows rules actions limits count last work
+FinishesTo rules count actions limits (ValuesAt n) work = ValuesOver rules count actions limits n work
+FinishesTo rules count actions limits (RowsAt n) work = RowsOver rules count actions limits n work

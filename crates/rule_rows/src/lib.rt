@@ -1,5 +1,7 @@
 // The rows of a list of rules, one after the other, each in its slot of the work area.
+use limits::Limits;
 use machine_rows::MachineBuilt;
+use machine_rows::Plan;
 use rules::Lowered;
 use rules::RuleAt;
 use steppers::Stepper;
@@ -13,31 +15,28 @@ pub enum AllBuilt {
     RowsAt(usize),
 }
 
-// Builds node n where it is a rule. A formula has no rows.
+// Builds node n where it is a rule; else nothing is built.
 fn build_next(
     node: Lowered,
     n: usize,
     actions: usize,
-    value_limit: usize,
-    row_limit: usize,
+    limits: Limits,
     work: &mut [u8],
     values: &mut [u64],
 ) -> MachineBuilt
-    requires { ⌜ NextBuildable node (now work) n actions «value_limit» «row_limit» (now values) ⌝ }
-    ensures { λ r. ⌜ NextTo node actions «value_limit» «row_limit» n r (now (work .entry)) (now (work .exit)) ⌝ }
+    requires { ⌜ NextBuildable node (now work) n actions limits (now values) ⌝ }
+    ensures { λ r. ⌜ NextTo node actions limits n r (now (work .entry)) (now (work .exit)) ⌝ }
 {
     let Lowered::AsRule(rule) = node else {
         return MachineBuilt::Rows(0);
     };
-    machine_rows::build_slot(
-        Stepper::OfRule(rule),
-        n,
+    let plan = Plan {
+        stepper: Stepper::OfRule(rule),
+        slot: n,
         actions,
-        value_limit,
-        row_limit,
-        work,
-        values,
-    )
+        limits,
+    };
+    machine_rows::build_slot(plan, work, values)
 }
 
 // Builds each rule of a list in its order, each in its own slot.
@@ -45,20 +44,19 @@ pub fn build_all(
     rules: [RuleAt; 64],
     count: usize,
     actions: usize,
-    value_limit: usize,
-    row_limit: usize,
+    limits: Limits,
     work: &mut [u8],
     values: &mut [u64],
 ) -> AllBuilt
-    requires { ⌜ AllBuildable rules count actions «value_limit» «row_limit» (now work) (now values) ⌝ }
-    ensures { λ r. ⌜ FinishesTo rules count actions «value_limit» «row_limit» r (now (work .exit)) ⌝ }
+    requires { ⌜ AllBuildable rules count actions limits (now work) (now values) ⌝ }
+    ensures { λ r. ⌜ FinishesTo rules count actions limits r (now (work .exit)) ⌝ }
 {
     let mut last = 0;
     let mut n = 0;
     while n < count {
         let element = rules[n];
         let node = element.of;
-        let built = build_next(node, n, actions, value_limit, row_limit, work, values);
+        let built = build_next(node, n, actions, limits, work, values);
         match built {
             MachineBuilt::Rows(rows) => {
                 last = rows;

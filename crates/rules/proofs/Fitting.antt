@@ -10,63 +10,63 @@ use lib.Dec.{leb}
 use lib.ListN.{length, drop}
 use borrow.Author.Tests.{leb-false}
 use Rattle.trace.specs.Trace.{Move, trip, go, after, run, tripped, trips}
-use Rattle.policy.specs.Words.{first, without}
-use Rattle.policy.specs.Rule.{Rule, opening, counting, same, both, either, copied, until, then, timed, filtered, onParts, ruleTrips}
-use Rattle.policy.specs.Closed.{Closed, Sound, answer}
-use Rattle.policy.specs.Value.{Part, partTrips, placeOf, rowOf, rows, released, rememberedThen, rememberedLate, rememberedTimed, Value, remembered, start, stepOf}
+use Rattle.policy.specs.Operators.{first, without}
+use Rattle.policy.specs.Rule.{Rule, opening-r, count-r, same-r, both-r, either-r, copied-r, before-r, after-r, fulfilling-r, ignoring-r, onParts, ruleTrips}
+use Rattle.policy.specs.Closed.{Closed, SoundRule, answer}
+use Rattle.policy.specs.Value.{Part, partTrips, partAfter, rowOf, rows, released, rememberedAfter, rememberedLate, rememberedFulfilling, Value, remembered, start, stepOf}
 use Rattle.policy.proofs.Copies.{row-below, copies-width}
 use Rattle.policy.proofs.Steps.{steps-right}
-use Rattle.rules.specs.Codes.{encode, PlaceFits, UntilFits, ThenFits, TimedFits, ValueFits, FitRule}
+use Rattle.rules.specs.Codes.{encode, PartFits, BeforeFits, AfterFits, FulfillingFits, ValueFits, FitRule}
 use Rattle.rules.specs.Steps.{encodeMove, codeStepOf}
 use Rattle.rules.proofs.Encoding.{decode-encode}
 use Rattle.rules.proofs.RuleParts.{count-positive}
 
-pub fit-sound : (rule : Rule Part) → FitRule rule → Sound rule
+pub fit-sound : (rule : Rule Part) → FitRule rule → SoundRule rule
 fit-sound rule fit = record { positive = count-positive rule (fit .counted); closed = fit .closed }
 
 -- the row of a part, and its row or trip
-row-fits : (f : Part) → (n : ℕ) × Closed n f → (w : List ℕ) → rowOf (placeOf f w) < 64
+row-fits : (f : Part) → (n : ℕ) × Closed n f → (w : List ℕ) → rowOf (partAfter f w) < 64
 row-fits f c w = let g = c .1 .few in let h = row-below (c .0) f (c .1) w in omega arith
 
-place-fits : (m : Move ℕ) → rowOf m < 64 → PlaceFits m
-place-fits trip h = tt
-place-fits (go r) h = h
+part-fits : (m : Move ℕ) → rowOf m < 64 → PartFits m
+part-fits trip h = tt
+part-fits (go r) h = h
 
-until-fits : (b : Bool) (q r : ℕ) → q < 64 → r < 64 → UntilFits (cond b released (rows q r))
-until-fits true q r g h = tt
-until-fits false q r g h = (g, h)
+before-fits : (b : Bool) (q r : ℕ) → q < 64 → r < 64 → BeforeFits (cond b released (rows q r))
+before-fits true q r g h = tt
+before-fits false q r g h = (g, h)
 
-then-fits : (o : Option ℕ) (f g : Part) → (n : ℕ) × Closed n f → (n : ℕ) × Closed n g → (w : List ℕ) → ThenFits (rememberedThen o f g w)
-then-fits none f g c d w = row-fits f c w
-then-fits (some n) f g c d w = row-fits g d (drop n w)
+after-fits : (o : Option ℕ) (f g : Part) → (n : ℕ) × Closed n f → (n : ℕ) × Closed n g → (w : List ℕ) → AfterFits (rememberedAfter o f g w)
+after-fits none f g c d w = row-fits f c w
+after-fits (some n) f g c d w = row-fits g d (drop n w)
 
 module _ (k : ℕ) (f g i : Part) (few : k ≤ 60) (c : (n : ℕ) × Closed n f) (d : (n : ℕ) × Closed n g) (e : (n : ℕ) × Closed n i) where
-  late-fits : (w : List ℕ) → TimedFits (rememberedLate k f i w)
+  late-fits : (w : List ℕ) → FulfillingFits (rememberedLate k f i w)
   late-fits w = by (leb k (length w)) refl
     where
-      by : (b : Bool) → leb k (length w) ≡ b → TimedFits (rememberedLate k f i w)
+      by : (b : Bool) → leb k (length w) ≡ b → FulfillingFits (rememberedLate k f i w)
       by true p = rw p (row-fits i e (drop k w))
       by false p = let h = leb-false k (length w) p in rw p (row-fits f c w, omega arith)
 
-  timed-fits : (o : Option ℕ) (w : List ℕ) → TimedFits (rememberedTimed o k f g i w)
-  timed-fits none w = late-fits w
-  timed-fits (some n) w = by (leb n k) refl
+  fulfilling-fits : (o : Option ℕ) (w : List ℕ) → FulfillingFits (rememberedFulfilling o k f g i w)
+  fulfilling-fits none w = late-fits w
+  fulfilling-fits (some n) w = by (leb n k) refl
     where
-      by : (b : Bool) → leb n k ≡ b → TimedFits (rememberedTimed (some n) k f g i w)
+      by : (b : Bool) → leb n k ≡ b → FulfillingFits (rememberedFulfilling (some n) k f g i w)
       by true p = rw p (row-fits g d (drop n w))
       by false p = rw p (late-fits w)
 
 fits : (rule : Rule Part) → FitRule rule → (w : List ℕ) → ruleTrips (onParts partTrips rule) w ≡ false → ValueFits rule (remembered rule w)
-fits (opening hit) fit w e = tt
-fits (counting k) fit w e = let g = fit .counted .1 in let h = leb-false k (length w) e in omega arith
-fits (same f) fit w e = row-fits f (fit .closed) w
-fits (both f g) fit w e = (place-fits (placeOf f w) (row-fits f (fit .closed .0) w), place-fits (placeOf g w) (row-fits g (fit .closed .1) w))
-fits (either f g) fit w e = (place-fits (placeOf f w) (row-fits f (fit .closed .0) w), place-fits (placeOf g w) (row-fits g (fit .closed .1) w))
-fits (copied f) fit w e = copies-width (fit .closed .0) f (fit .closed .1) w
-fits (until f g) fit w e = until-fits (partTrips f w) (rowOf (placeOf f w)) (rowOf (placeOf g w)) (row-fits f (fit .closed .0) w) (row-fits g (fit .closed .1) w)
-fits (then f g) fit w e = then-fits (first (partTrips f) w) f g (fit .closed .0) (fit .closed .1) w
-fits (timed k f g i) fit w e = timed-fits k f g i (fit .counted .1) (fit .closed .0) (fit .closed .1) (fit .closed .2) (first (partTrips f) w) w
-fits (filtered hit f) fit w e = row-fits f (fit .closed) (without hit w)
+fits (opening-r hit) fit w e = tt
+fits (count-r k) fit w e = let g = fit .counted .1 in let h = leb-false k (length w) e in omega arith
+fits (same-r f) fit w e = row-fits f (fit .closed) w
+fits (both-r f g) fit w e = (part-fits (partAfter f w) (row-fits f (fit .closed .0) w), part-fits (partAfter g w) (row-fits g (fit .closed .1) w))
+fits (either-r f g) fit w e = (part-fits (partAfter f w) (row-fits f (fit .closed .0) w), part-fits (partAfter g w) (row-fits g (fit .closed .1) w))
+fits (copied-r f) fit w e = copies-width (fit .closed .0) f (fit .closed .1) w
+fits (before-r f g) fit w e = before-fits (partTrips f w) (rowOf (partAfter f w)) (rowOf (partAfter g w)) (row-fits f (fit .closed .0) w) (row-fits g (fit .closed .1) w)
+fits (after-r f g) fit w e = after-fits (first (partTrips f) w) f g (fit .closed .0) (fit .closed .1) w
+fits (fulfilling-r k f g i) fit w e = fulfilling-fits k f g i (fit .counted .1) (fit .closed .0) (fit .closed .1) (fit .closed .2) (first (partTrips f) w) w
+fits (ignoring-r hit f) fit w e = row-fits f (fit .closed) (without hit w)
 
 -- a move to a value that fits
 abbrev MoveFits : (rule : Rule Part) → Move (Value rule) → Type 0

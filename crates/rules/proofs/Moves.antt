@@ -9,7 +9,7 @@ use lib.Count.{trailingZeros}
 use Rattle.base.specs.Sets.{bit}
 use Rattle.base.proofs.Bits.{union-assoc}
 use Rattle.trace.specs.Trace.{Move, trip, go}
-use Rattle.policy.specs.Value.{Part, insert, join, moveBelow}
+use Rattle.policy.specs.Value.{Part, insert, withCopy, moveBelow}
 use Rattle.policy.proofs.Sets.{insert-comm}
 use Rattle.policy.proofs.Copies.{move-empty, move-insert}
 use Rattle.rules.proofs.Lowest.{cleared, lowest}
@@ -19,13 +19,13 @@ abbrev carry : ℕ → Move ℕ → Move ℕ
 carry moved trip = trip
 carry moved (go set) = go (bitOr moved set)
 
--- a copy's move joined before or behind
-carry-join : (s : ℕ) (m n : Move ℕ) → carry s (join m n) ≡ join m (carry s n)
+-- a copy's move joined before or after
+carry-join : (s : ℕ) (m n : Move ℕ) → carry s (withCopy m n) ≡ withCopy m (carry s n)
 carry-join s trip n = refl
 carry-join s (go r) trip = refl
 carry-join s (go r) (go t) = ap go (union-assoc s t (2 ^ r))
 
-carry-insert : (r s : ℕ) (m : Move ℕ) → carry s (join (go r) m) ≡ carry (insert r s) m
+carry-insert : (r s : ℕ) (m : Move ℕ) → carry s (withCopy (go r) m) ≡ carry (insert r s) m
 carry-insert r s trip = refl
 carry-insert r s (go t) = ap go (rw (or-comm t (2 ^ r)) (union-assoc s (2 ^ r) t))
 
@@ -35,7 +35,7 @@ begins f set a zero = refl
 begins f set a (suc n) = by (bit set n) (begins f set a n)
   where
     by : (b : Bool) → carry 1 (moveBelow f set a n) ≡ moveBelow f set a n
-        → carry 1 (cond b (join (f n a) (moveBelow f set a n)) (moveBelow f set a n)) ≡ cond b (join (f n a) (moveBelow f set a n)) (moveBelow f set a n)
+        → carry 1 (cond b (withCopy (f n a) (moveBelow f set a n)) (moveBelow f set a n)) ≡ cond b (withCopy (f n a) (moveBelow f set a n)) (moveBelow f set a n)
     by true ih = carry-join 1 (f n a) (moveBelow f set a n) ∙ rw ih
     by false ih = ih
 
@@ -56,7 +56,7 @@ module _ {f : Part} {n set a moved rest : ℕ} (m : Moving f n set a moved rest)
   row-below = lowest n rest h (m .fits) .0
 
   -- the copies left are its copy and those in higher rows
-  split : moveBelow f set a n ≡ carry moved (join (f (trailingZeros n rest) a) (moveBelow f (cleared rest) a n))
+  split : moveBelow f set a n ≡ carry moved (withCopy (f (trailingZeros n rest) a) (moveBelow f (cleared rest) a n))
   split =
       m .whole
       ∙ ap (λ (s : ℕ). carry moved (moveBelow f s a n)) (lowest n rest h (m .fits) .1)

@@ -8,7 +8,7 @@ use native.Mathlib.Omega.{arith}
 use lib.ListN.{getD}
 use Rattle.automaton.specs.Machine.{transition}
 use Rattle.policy.specs.Parts.{AllParts}
-use Rattle.rules.specs.Codes.{CountFits, FitRule}
+use Rattle.rules.specs.Codes.{CountInRange, FitRule}
 use Rattle.rules.specs.Rules.{slotAt, partAt, ruleOver, machineRule, Readable}
 use Rattle.rules.specs.declared.NodeRule.{NodeRule}
 use Rattle.rules.proofs.RuleParts.{all-map, all-onto, on-parts-agree, count-on}

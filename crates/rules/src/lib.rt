@@ -10,15 +10,15 @@ pub use steps::step;
 // A node's rule over the numbers of its parts. A set of 16 bits says which actions satisfy a formula.
 pub enum NodeRule {
     Opening(u16),
-    Counting(u8),
+    Count(u8),
     Same(u8),
     Both(u8, u8),
     Either(u8, u8),
     Copied(u8),
-    Until(u8, u8),
-    Then(u8, u8),
-    Timed(u8, u8, u8, u8),
-    Filtered(u16, u8),
+    Before(u8, u8),
+    After(u8, u8),
+    Fulfilling(u8, u8, u8, u8),
+    Ignoring(u16, u8),
 }
 
 // Where an action leads: a trip, or the next remembered value as a number.

@@ -5,6 +5,7 @@ ghost use mathlib.Core.Path.{_≡_};
 ghost use Prim.Native.Nat.{_≤_, _<_};
 ghost use lib.ListN.{length};
 ghost use Rattle.policy.specs.Value.{insert, moveAll};
+ghost use Rattle.limits.specs.Lengths.{workLength};
 ghost use Rattle.rules.specs.Rules.{partAt, moveOf, Readable};
 
 // A set with one row more.
@@ -17,7 +18,7 @@ fn with_row(set: u64, row: u64) -> u64
 
 // All copies moved by an action, and a copy beginning now. The lowest row left is found by trailing zeros.
 pub fn move_copies(work: &[u8], actions: usize, i: u8, set: u64, action: usize) -> ValueMove
-    requires { ⌜ (65536 ≤ length (now work)) × Readable (now work) i × (actions ≤ 16) × (action < actions) ⌝ }
+    requires { ⌜ (workLength ≤ length (now work)) × Readable (now work) i × (actions ≤ 16) × (action < actions) ⌝ }
     ensures { λ r. ⌜ moveOf r ≡ moveAll (partAt actions (now (work .entry)) i) set action ⌝ }
 {
     let mut moved = 1;

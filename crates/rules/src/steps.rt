@@ -5,17 +5,32 @@ use crate::parts::entry_at;
 use crate::parts::part_move;
 use crate::sets::move_copies;
 ghost use mathlib.Core.Path.{_≡_};
-ghost use mathlib.Core.Bool.{cond};
 ghost use Prim.Native.Nat.{_+_, _≤_, _<_};
 ghost use lib.ListN.{length};
 ghost use Rattle.base.specs.Sets.{bit};
-ghost use Rattle.trace.specs.Trace.{go, after};
+ghost use Rattle.trace.specs.Trace.{after};
 ghost use Rattle.policy.specs.Closed.{Below};
-ghost use Rattle.policy.specs.Rule.{opening, counting};
+ghost use Rattle.policy.specs.Rule.{opening-r, count-r};
 ghost use Rattle.policy.specs.Value.{goWith};
-ghost use Rattle.rules.specs.Codes.{codePlace};
+ghost use Rattle.rules.specs.Codes.{byteUp, missedFrom, byteMove};
+ghost use Rattle.limits.specs.Lengths.{workLength};
 ghost use Rattle.rules.specs.Rules.{partAt, moveOf, Readable, Steppable};
 ghost use Rattle.rules.specs.Steps.{codeStep, codeStepOf, codeStart};
+
+// A value is put together from bytes (specs/Codes.antt): one further up counts 256 times as much.
+const BYTE: u64 = 256;
+// A part that has tripped, in a byte; and two of them.
+const TRIPPED: u64 = 255;
+
+const BOTH_TRIPPED: u64 = 65535;
+// Before: a is fulfilled. It is no pair of rows.
+const RELEASED: u64 = 65535;
+// After: the mark above the row of b. Fulfilling: the marks above the row of b and of c.
+const MARKED: u64 = 256;
+
+const KEPT: u64 = 65536;
+
+const MISSED: u64 = 131072;
 
 // The value before any action.
 pub fn start(rule: NodeRule, work: &[u8], actions: usize) -> u64
@@ -23,7 +38,7 @@ pub fn start(rule: NodeRule, work: &[u8], actions: usize) -> u64
 {
     match rule {
         NodeRule::Copied(_) => 1,
-        NodeRule::Timed(k, _, _, _) => { if k == 0 { 131072 } else { 0 } }
+        NodeRule::Fulfilling(k, _, _, _) => { if k == 0 { MISSED } else { 0 } }
         _ => 0,
     }
 }
@@ -38,7 +53,7 @@ fn in_set(set: u16, action: usize) -> bool
 
 fn opening_step(set: u16, value: u64, action: usize) -> ValueMove
     requires { ⌜ action < 16 ⌝ }
-    ensures { λ r. ⌜ moveOf r ≡ codeStepOf (opening (bit set)) value action ⌝ }
+    ensures { λ r. ⌜ moveOf r ≡ codeStepOf (opening-r (bit set)) value action ⌝ }
 {
     if value == 0 {
         if in_set(set, action) {
@@ -48,44 +63,44 @@ fn opening_step(set: u16, value: u64, action: usize) -> ValueMove
     ValueMove::Go(1)
 }
 
-fn counting_step(k: u8, value: u64, action: usize) -> ValueMove
-    ensures { λ r. ⌜ moveOf r ≡ codeStepOf (counting k) value action ⌝ }
+fn count_step(k: u8, value: u64, action: usize) -> ValueMove
+    ensures { λ r. ⌜ moveOf r ≡ codeStepOf (count-r k) value action ⌝ }
 {
-    let sofar = value as usize % 256 + 1;
-    if k as usize <= sofar {
-        ValueMove::Trip
+    let sofar = value % BYTE + 1;
+    if sofar < k as u64 {
+        ValueMove::Go(sofar)
     } else {
-        ValueMove::Go(sofar as u64)
+        ValueMove::Trip
     }
 }
 
 // Where an action leads from a row that a byte names: to a row below 64, or a trip.
 fn row_move(work: &[u8], actions: usize, i: u8, row: u64, action: usize) -> ValueMove
-    requires { ⌜ (65536 ≤ length (now work)) × Readable (now work) i × (actions ≤ 16) × (action < actions) × (row < 256) ⌝ }
+    requires { ⌜ (workLength ≤ length (now work)) × Readable (now work) i × (actions ≤ 16) × (action < actions) × (row < byteUp) ⌝ }
     ensures { λ r. ⌜ (moveOf r ≡ partAt actions (now (work .entry)) i row action) × Below 64 (moveOf r) ⌝ }
 {
     part_move(work, actions, i, row as usize, action)
 }
 
 // A part's row or trip behind an action, as a byte: a part that has tripped stays so.
-fn place_after(work: &[u8], actions: usize, i: u8, place: u64, action: usize) -> u8
-    requires { ⌜ (65536 ≤ length (now work)) × (i < 64) × (actions ≤ 16) × (action < actions) × (place < 256) ⌝ }
-    ensures { λ r. ⌜ codePlace r ≡ after (codePlace place) (λ q. partAt actions (now (work .entry)) i q action) ⌝ }
+fn byte_after(work: &[u8], actions: usize, i: u8, byte: u64, action: usize) -> u8
+    requires { ⌜ (workLength ≤ length (now work)) × (i < 64) × (actions ≤ 16) × (action < actions) × (byte < byteUp) ⌝ }
+    ensures { λ r. ⌜ byteMove r ≡ after (byteMove byte) (λ q. partAt actions (now (work .entry)) i q action) ⌝ }
 {
-    if place == 255 {
+    if byte == TRIPPED {
         return 255;
     }
-    entry_at(work, i, place as usize * actions + action)
+    entry_at(work, i, byte as usize * actions + action)
 }
 
 fn both_step(work: &[u8], actions: usize, i: u8, j: u8, value: u64, action: usize) -> ValueMove
     requires { ⌜ Steppable (now work) (NodeRule.Both i j) × (actions ≤ 16) × (action < actions) ⌝ }
     ensures { λ r. ⌜ moveOf r ≡ codeStep actions (now (work .entry)) (NodeRule.Both i j) value action ⌝ }
 {
-    let left = place_after(work, actions, i, value / 256 % 256, action) as u64;
-    let right = place_after(work, actions, j, value % 256, action) as u64;
-    let pair = left * 256 + right;
-    if pair == 65535 {
+    let left = byte_after(work, actions, i, value / BYTE % BYTE, action) as u64;
+    let right = byte_after(work, actions, j, value % BYTE, action) as u64;
+    let pair = left * BYTE + right;
+    if pair == BOTH_TRIPPED {
         ValueMove::Trip
     } else {
         ValueMove::Go(pair)
@@ -96,72 +111,61 @@ fn either_step(work: &[u8], actions: usize, i: u8, j: u8, value: u64, action: us
     requires { ⌜ Steppable (now work) (NodeRule.Either i j) × (actions ≤ 16) × (action < actions) ⌝ }
     ensures { λ r. ⌜ moveOf r ≡ codeStep actions (now (work .entry)) (NodeRule.Either i j) value action ⌝ }
 {
-    let left = place_after(work, actions, i, value / 256 % 256, action) as u64;
-    let right = place_after(work, actions, j, value % 256, action) as u64;
-    if left == 255 {
+    let left = byte_after(work, actions, i, value / BYTE % BYTE, action) as u64;
+    let right = byte_after(work, actions, j, value % BYTE, action) as u64;
+    if left == TRIPPED {
         return ValueMove::Trip;
     }
-    if right == 255 {
+    if right == TRIPPED {
         return ValueMove::Trip;
     }
-    ValueMove::Go(left * 256 + right)
+    ValueMove::Go(left * BYTE + right)
 }
 
 // b is judged on the very action that fulfils a, and only then released.
-fn until_step(work: &[u8], actions: usize, i: u8, j: u8, value: u64, action: usize) -> ValueMove
-    requires { ⌜ Steppable (now work) (NodeRule.Until i j) × (actions ≤ 16) × (action < actions) ⌝ }
-    ensures { λ r. ⌜ moveOf r ≡ codeStep actions (now (work .entry)) (NodeRule.Until i j) value action ⌝ }
+fn before_step(work: &[u8], actions: usize, i: u8, j: u8, value: u64, action: usize) -> ValueMove
+    requires { ⌜ Steppable (now work) (NodeRule.Before i j) × (actions ≤ 16) × (action < actions) ⌝ }
+    ensures { λ r. ⌜ moveOf r ≡ codeStep actions (now (work .entry)) (NodeRule.Before i j) value action ⌝ }
 {
-    if value == 65535 {
-        return ValueMove::Go(65535);
+    if value == RELEASED {
+        return ValueMove::Go(RELEASED);
     }
-    match row_move(work, actions, j, value % 256, action) {
+    match row_move(work, actions, j, value % BYTE, action) {
         ValueMove::Trip => ValueMove::Trip,
-        ValueMove::Go(r) => match row_move(work, actions, i, value / 256 % 256, action) {
-            ValueMove::Trip => ValueMove::Go(65535),
-            ValueMove::Go(q) => ValueMove::Go(q * 256 + r),
+        ValueMove::Go(r) => match row_move(work, actions, i, value / BYTE % BYTE, action) {
+            ValueMove::Trip => ValueMove::Go(RELEASED),
+            ValueMove::Go(q) => ValueMove::Go(q * BYTE + r),
         },
     }
 }
 
-// A part's row under a mark: behind the action, where the part reads it.
-fn marked_move(
-    work: &[u8],
-    actions: usize,
-    i: u8,
-    mark: u64,
-    row: u64,
-    reads: bool,
-    action: usize,
-) -> ValueMove
-    requires { ⌜ (65536 ≤ length (now work)) × Readable (now work) i × (actions ≤ 16) × (action < actions) × (mark ≤ 131072) × (row < 256) ⌝ }
-    ensures { λ r. ⌜ moveOf r ≡ cond reads (goWith (λ q. mark + q) (partAt actions (now (work .entry)) i row action)) (go (mark + row)) ⌝ }
+// A part's row under a mark, behind the action.
+fn marked_move(work: &[u8], actions: usize, i: u8, mark: u64, row: u64, action: usize) -> ValueMove
+    requires { ⌜ (workLength ≤ length (now work)) × Readable (now work) i × (actions ≤ 16) × (action < actions) × (mark ≤ missedFrom) × (row < byteUp) ⌝ }
+    ensures { λ r. ⌜ moveOf r ≡ goWith (λ q. mark + q) (partAt actions (now (work .entry)) i row action) ⌝ }
 {
-    if reads {
-        let ValueMove::Go(r) = row_move(work, actions, i, row, action) else {
-            return ValueMove::Trip;
-        };
-        return ValueMove::Go(mark + r);
-    }
-    ValueMove::Go(mark + row)
+    let ValueMove::Go(r) = row_move(work, actions, i, row, action) else {
+        return ValueMove::Trip;
+    };
+    ValueMove::Go(mark + r)
 }
 
-// b starts on the action behind the one that fulfils a, and does not read that one.
-fn then_step(work: &[u8], actions: usize, i: u8, j: u8, value: u64, action: usize) -> ValueMove
-    requires { ⌜ Steppable (now work) (NodeRule.Then i j) × (actions ≤ 16) × (action < actions) ⌝ }
-    ensures { λ r. ⌜ moveOf r ≡ codeStep actions (now (work .entry)) (NodeRule.Then i j) value action ⌝ }
+// b starts on the action after the one that fulfils a, and does not read that one.
+fn after_step(work: &[u8], actions: usize, i: u8, j: u8, value: u64, action: usize) -> ValueMove
+    requires { ⌜ Steppable (now work) (NodeRule.After i j) × (actions ≤ 16) × (action < actions) ⌝ }
+    ensures { λ r. ⌜ moveOf r ≡ codeStep actions (now (work .entry)) (NodeRule.After i j) value action ⌝ }
 {
-    let row = value % 256;
-    if value / 256 % 256 != 0 {
-        return marked_move(work, actions, j, 256, row, true, action);
+    let row = value % BYTE;
+    if value / BYTE % BYTE != 0 {
+        return marked_move(work, actions, j, MARKED, row, action);
     }
     match row_move(work, actions, i, row, action) {
-        ValueMove::Trip => marked_move(work, actions, j, 256, 0, false, action),
+        ValueMove::Trip => ValueMove::Go(MARKED),
         ValueMove::Go(q) => ValueMove::Go(q),
     }
 }
 
-fn timed_step(
+fn fulfilling_step(
     work: &[u8],
     actions: usize,
     k: u8,
@@ -171,31 +175,31 @@ fn timed_step(
     value: u64,
     action: usize,
 ) -> ValueMove
-    requires { ⌜ Steppable (now work) (NodeRule.Timed k i j l) × (actions ≤ 16) × (action < actions) ⌝ }
-    ensures { λ r. ⌜ moveOf r ≡ codeStep actions (now (work .entry)) (NodeRule.Timed k i j l) value action ⌝ }
+    requires { ⌜ Steppable (now work) (NodeRule.Fulfilling k i j l) × (actions ≤ 16) × (action < actions) ⌝ }
+    ensures { λ r. ⌜ moveOf r ≡ codeStep actions (now (work .entry)) (NodeRule.Fulfilling k i j l) value action ⌝ }
 {
-    let low = value % 256;
-    let phase = value / 65536 % 256;
+    let low = value % BYTE;
+    let phase = value / KEPT % BYTE;
     if phase == 1 {
-        return marked_move(work, actions, j, 65536, low, true, action);
+        return marked_move(work, actions, j, KEPT, low, action);
     }
     if phase != 0 {
-        return marked_move(work, actions, l, 131072, low, true, action);
+        return marked_move(work, actions, l, MISSED, low, action);
     }
-    match row_move(work, actions, i, value / 256 % 256, action) {
-        ValueMove::Trip => marked_move(work, actions, j, 65536, 0, false, action),
+    match row_move(work, actions, i, value / BYTE % BYTE, action) {
+        ValueMove::Trip => ValueMove::Go(KEPT),
         ValueMove::Go(q) => {
             let sofar = low + 1;
             if k as u64 <= sofar {
-                marked_move(work, actions, l, 131072, 0, false, action)
+                ValueMove::Go(MISSED)
             } else {
-                ValueMove::Go(q * 256 + sofar)
+                ValueMove::Go(q * BYTE + sofar)
             }
         }
     }
 }
 
-fn filtered_step(
+fn ignoring_step(
     work: &[u8],
     actions: usize,
     set: u16,
@@ -203,10 +207,10 @@ fn filtered_step(
     value: u64,
     action: usize,
 ) -> ValueMove
-    requires { ⌜ Steppable (now work) (NodeRule.Filtered set i) × (actions ≤ 16) × (action < actions) ⌝ }
-    ensures { λ r. ⌜ moveOf r ≡ codeStep actions (now (work .entry)) (NodeRule.Filtered set i) value action ⌝ }
+    requires { ⌜ Steppable (now work) (NodeRule.Ignoring set i) × (actions ≤ 16) × (action < actions) ⌝ }
+    ensures { λ r. ⌜ moveOf r ≡ codeStep actions (now (work .entry)) (NodeRule.Ignoring set i) value action ⌝ }
 {
-    let row = value % 256;
+    let row = value % BYTE;
     if in_set(set, action) {
         return ValueMove::Go(row);
     }
@@ -220,14 +224,23 @@ pub fn step(rule: NodeRule, work: &[u8], actions: usize, value: u64, action: usi
 {
     match rule {
         NodeRule::Opening(set) => opening_step(set, value, action),
-        NodeRule::Counting(k) => counting_step(k, value, action),
-        NodeRule::Same(i) => row_move(work, actions, i, value % 256, action),
+        NodeRule::Count(k) => count_step(k, value, action),
+        NodeRule::Same(i) => row_move(work, actions, i, value % BYTE, action),
         NodeRule::Both(i, j) => both_step(work, actions, i, j, value, action),
         NodeRule::Either(i, j) => either_step(work, actions, i, j, value, action),
         NodeRule::Copied(i) => move_copies(work, actions, i, value, action),
-        NodeRule::Until(i, j) => until_step(work, actions, i, j, value, action),
-        NodeRule::Then(i, j) => then_step(work, actions, i, j, value, action),
-        NodeRule::Timed(k, i, j, l) => timed_step(work, actions, k, i, j, l, value, action),
-        NodeRule::Filtered(set, i) => filtered_step(work, actions, set, i, value, action),
+        NodeRule::Before(i, j) => before_step(work, actions, i, j, value, action),
+        NodeRule::After(i, j) => after_step(work, actions, i, j, value, action),
+        NodeRule::Fulfilling(k, i, j, l) => fulfilling_step(
+            work,
+            actions,
+            k,
+            i,
+            j,
+            l,
+            value,
+            action,
+        ),
+        NodeRule::Ignoring(set, i) => ignoring_step(work, actions, set, i, value, action),
     }
 }

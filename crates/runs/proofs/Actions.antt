@@ -13,9 +13,9 @@ use Rattle.places.specs.Places.{taken}
 use Rattle.view.specs.View.{View, Change}
 use Rattle.view.specs.Moves.{denies, fulfils, deniesAt, fulfilsAt}
 use Rattle.view.specs.Steps.{act, Reply, InList, Carries, is-denied, is-permitted}
-use Rattle.runs.specs.Events.{Event, Standing, nothing, rule, onPlace}
+use Rattle.runs.specs.Events.{Event, PlaceState, nothing, rule, onPlace}
 use Rattle.runs.specs.Runs.{PlaceIs, StateIs}
-use Rattle.runs.specs.Verdicts.{Listed, Violated, NoneViolated, FirstFulfilled, Judges, permits, denies-lowest}
+use Rattle.runs.specs.Verdicts.{ActionListed, Violated, NoneViolated, FirstFulfilled, Judges, permits, denies-lowest}
 use Rattle.runs.proofs.Rules.{denies-violated, not-denied, fulfils-now, now-fulfils, unfulfilled-exactly}
 use Rattle.runs.proofs.Places.{keeps, rule-taken, taken-rule}
 
@@ -24,7 +24,7 @@ module _ (events : List Event) {view : View} (s : StateIs (onPlace events) view)
   denied-violated : (i : ℕ) → deniesAt view action i ≡ true → Violated events action i
   denied-violated i d = at (onPlace events i) refl (s .each i)
     where
-      at : (x : Standing) → onPlace events i ≡ x → PlaceIs (view .table i) x (view .case i) → Violated events action i
+      at : (x : PlaceState) → onPlace events i ≡ x → PlaceIs (view .table i) x (view .case i) → Violated events action i
       at nothing e p = not-both (sym d ∙ ap (denies (view .table i) action) p)
       at (rule table since) e p =
           let v = denies-violated table since action (p .after) (rw (p .stands) at d) in
@@ -38,7 +38,7 @@ module _ (events : List Event) {view : View} (s : StateIs (onPlace events) view)
   fulfils-first : (i : ℕ) → fulfilsAt view action i ≡ true → FirstFulfilled events action i
   fulfils-first i f = at (onPlace events i) refl (s .each i)
     where
-      at : (x : Standing) → onPlace events i ≡ x → PlaceIs (view .table i) x (view .case i) → FirstFulfilled events action i
+      at : (x : PlaceState) → onPlace events i ≡ x → PlaceIs (view .table i) x (view .case i) → FirstFulfilled events action i
       at nothing e p = not-both (sym f ∙ ap (fulfils (view .table i) action) p)
       at (rule table since) e p =
           let v = fulfils-now table since action (p .after) (rw (p .stands) at f) in
@@ -56,13 +56,13 @@ module _ (events : List Event) {view : View} (s : StateIs (onPlace events) view)
       let k = keeps s i (f .table) (f .since) (f .on) in
       rw (k .stands) (now-fulfils (f .table) (f .since) action (k .after) (f .watched) (unfulfilled-exactly (f .table) (f .watched) (f .since) .0 (f .shortest)) (f .fulfilled))
 
-  pub in-list-listed : {places : ℕ} → InList places view action → Listed events action
+  pub in-list-listed : {places : ℕ} → InList places view action → ActionListed events action
   in-list-listed l =
       let (table, since, e) = taken-rule s (l .place) (l .on) in
       let k = keeps s (l .place) table since e in
       record { place = l .place; table = table; since = since; on = e; below = subst (λ (n : ℕ). action < n) (ap actionsOf (k .stands)) (l .listed) }
 
-  pub listed-in-list : {places : ℕ} → ((i : ℕ) → taken (view .case i) ≡ true → i < places) → Listed events action → InList places view action
+  pub listed-in-list : {places : ℕ} → ((i : ℕ) → taken (view .case i) ≡ true → i < places) → ActionListed events action → InList places view action
   listed-in-list above l =
       let k = keeps s (l .place) (l .table) (l .since) (l .on) in
       let t = rule-taken s (l .place) (l .table) (l .since) (l .on) in

@@ -9,7 +9,7 @@ use lib.Dec.{eqb}
 use borrow.Author.Tests.{eqb-true, eq-eqb}
 use Rattle.view.specs.View.{View}
 use Rattle.view.specs.Steps.{put-on, done}
-use Rattle.runs.specs.Events.{Event, event, none as kept, put, read, Standing, nothing, rule, followed, after}
+use Rattle.runs.specs.Events.{Event, event, none as kept, put, read, PlaceState, nothing, rule, followed, afterEffect}
 use Rattle.runs.specs.Runs.{Run}
 use Rattle.runs.specs.Holding.{HoldsOn, Holds, PutsOnly, none, more}
 use Rattle.runs.proofs.Places.{no-rule, same-table, same-since}
@@ -20,14 +20,14 @@ use Rattle.runs.proofs.Reports.{before}
 abbrev pub sinceAfter : Bool → List ℕ → ℕ → List ℕ
 sinceAfter b since action = cond b (since ++ (action ∷ [])) since
 
-followed-from : (action : ℕ) (x : Standing) (table now : List ℕ) → followed action x ≡ rule table now
+followed-from : (action : ℕ) (x : PlaceState) (table now : List ℕ) → followed action x ≡ rule table now
     → (before : List ℕ) × (x ≡ rule table before) × (now ≡ before ++ (action ∷ []))
 followed-from action nothing table now e = no-rule e
 followed-from action (rule other before) table now e = (before, ap (λ (t : List ℕ). rule t before) (same-table e), sym (same-since e))
 
 -- What places hold after an answer to an action.
-pub holds-after : {on : ℕ → Standing} {tables : List (List ℕ)} {since : List ℕ} → HoldsOn on tables since → (action : ℕ) (b : Bool)
-    → HoldsOn (λ i. after (cond b (read action) kept) (on i)) tables (sinceAfter b since action)
+pub holds-after : {on : ℕ → PlaceState} {tables : List (List ℕ)} {since : List ℕ} → HoldsOn on tables since → (action : ℕ) (b : Bool)
+    → HoldsOn (λ i. afterEffect (cond b (read action) kept) (on i)) tables (sinceAfter b since action)
 holds-after {on} {tables} {since} h action true =
     record {
       rules = λ i table now e.
@@ -43,20 +43,20 @@ pub holds-none : Holds [] [] []
 holds-none = record { rules = λ i table now e. no-rule e; each = λ table m. absurd (List·Memᴰ·not-nil m) }
 
 -- a place that was free
-module _ {on : ℕ → Standing} {tables : List (List ℕ)} (h : HoldsOn on tables []) (place : ℕ) (table : List ℕ) (free : on place ≡ nothing) where
-  put-rules : (i : ℕ) (b : Bool) (other now : List ℕ) → after (cond b (put table) kept) (on i) ≡ rule other now → List·Memᴰ other (table ∷ tables) × (now ≡ [])
+module _ {on : ℕ → PlaceState} {tables : List (List ℕ)} (h : HoldsOn on tables []) (place : ℕ) (table : List ℕ) (free : on place ≡ nothing) where
+  put-rules : (i : ℕ) (b : Bool) (other now : List ℕ) → afterEffect (cond b (put table) kept) (on i) ≡ rule other now → List·Memᴰ other (table ∷ tables) × (now ≡ [])
   put-rules i true other now e = (List·Memᴰ·head (sym (same-table e)), sym (same-since e))
   put-rules i false other now e = let (m, q) = h .rules i other now e in (List·Memᴰ·tail m, q)
 
-  put-each : (other : List ℕ) → (other ≡ table) ⊎ List·Memᴰ other tables → (i : ℕ) × (after (cond (eqb place i) (put table) kept) (on i) ≡ rule other [])
+  put-each : (other : List ℕ) → (other ≡ table) ⊎ List·Memᴰ other tables → (i : ℕ) × (afterEffect (cond (eqb place i) (put table) kept) (on i) ≡ rule other [])
   put-each other (inl e) = (place, rw (eq-eqb place place refl, e))
   put-each other (inr m) = let (i, e) = h .each other m in (i, at i e (eqb place i) refl)
     where
-      at : (i : ℕ) → on i ≡ rule other [] → (b : Bool) → eqb place i ≡ b → after (cond b (put table) kept) (on i) ≡ rule other []
+      at : (i : ℕ) → on i ≡ rule other [] → (b : Bool) → eqb place i ≡ b → afterEffect (cond b (put table) kept) (on i) ≡ rule other []
       at i e true q = no-rule (sym free ∙ ap on (eqb-true place i q) ∙ e)
       at i e false q = e
 
-  put-holds : HoldsOn (λ i. after (cond (eqb place i) (put table) kept) (on i)) (table ∷ tables) []
+  put-holds : HoldsOn (λ i. afterEffect (cond (eqb place i) (put table) kept) (on i)) (table ∷ tables) []
   put-holds = record { rules = λ i other now e. put-rules i (eqb place i) other now e; each = λ other m. put-each other (List·Memᴰ·cases-cons m) }
 
 -- A table put on a run's places that hold tables, before any action was permitted since, is held with them.

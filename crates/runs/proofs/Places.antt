@@ -11,7 +11,7 @@ use Rattle.places.specs.Places.{taken}
 use Rattle.view.specs.View.{View}
 use Rattle.view.specs.Possible.{CaseFits, Possible}
 use Rattle.places.specs.declared.Case.{Case}
-use Rattle.runs.specs.Events.{Standing, nothing, rule}
+use Rattle.runs.specs.Events.{PlaceState, nothing, rule}
 use Rattle.runs.specs.Runs.{Keeps, PlaceIs, StateIs}
 use Rattle.runs.proofs.Rules.{case-fits, after-taken}
 
@@ -26,23 +26,23 @@ pub same-since : {table other since since' : List ℕ} → rule table since ≡ 
 same-since e = cc
 
 -- A place that is as a standing says, seen as a rule or as nothing.
-place-rule : (stored : List ℕ) (s : Standing) (c : Case) (table since : List ℕ) → s ≡ rule table since → PlaceIs stored s c → Keeps stored table since c
-place-rule stored s c table since e p = subst (λ (x : Standing). PlaceIs stored x c) e p
+place-rule : (stored : List ℕ) (s : PlaceState) (c : Case) (table since : List ℕ) → s ≡ rule table since → PlaceIs stored s c → Keeps stored table since c
+place-rule stored s c table since e p = subst (λ (x : PlaceState). PlaceIs stored x c) e p
 
-place-taken : (stored : List ℕ) (s : Standing) (c : Case) → PlaceIs stored s c → taken c ≡ true → (table since : List ℕ) × (s ≡ rule table since)
+place-taken : (stored : List ℕ) (s : PlaceState) (c : Case) → PlaceIs stored s c → taken c ≡ true → (table since : List ℕ) × (s ≡ rule table since)
 place-taken stored nothing c p t = not-both (sym t ∙ ap taken p)
 place-taken stored (rule table since) c p t = (table, since, refl)
 
-place-free : (stored : List ℕ) (s : Standing) (c : Case) → PlaceIs stored s c → taken c ≡ false → s ≡ nothing
+place-free : (stored : List ℕ) (s : PlaceState) (c : Case) → PlaceIs stored s c → taken c ≡ false → s ≡ nothing
 place-free stored nothing c p t = refl
 place-free stored (rule table since) c p t = not-both (sym (after-taken table (p .after)) ∙ t)
 
-place-fits : (stored : List ℕ) (s : Standing) (c : Case) → PlaceIs stored s c → CaseFits stored c
+place-fits : (stored : List ℕ) (s : PlaceState) (c : Case) → PlaceIs stored s c → CaseFits stored c
 place-fits stored nothing c p = subst (CaseFits stored) (sym p) tt
 place-fits stored (rule table since) c p =
     subst (λ (l : List ℕ). CaseFits l c) (sym (p .stands)) (case-fits table (p .accepted .formed) since (p .sequence) (p .after))
 
-module _ {on : ℕ → Standing} {view : View} (s : StateIs on view) where
+module _ {on : ℕ → PlaceState} {view : View} (s : StateIs on view) where
   pub keeps : (i : ℕ) (table since : List ℕ) → on i ≡ rule table since → Keeps (view .table i) table since (view .case i)
   keeps i table since e = place-rule (view .table i) (on i) (view .case i) table since e (s .each i)
 
@@ -56,7 +56,7 @@ module _ {on : ℕ → Standing} {view : View} (s : StateIs on view) where
   free-nothing i t = place-free (view .table i) (on i) (view .case i) (s .each i) t
 
   pub nothing-free : (i : ℕ) → on i ≡ nothing → taken (view .case i) ≡ false
-  nothing-free i e = ap taken (subst (λ (x : Standing). PlaceIs (view .table i) x (view .case i)) e (s .each i))
+  nothing-free i e = ap taken (subst (λ (x : PlaceState). PlaceIs (view .table i) x (view .case i)) e (s .each i))
 
   -- Such a view can be.
   pub possible : (places : ℕ) → Possible places view

@@ -13,7 +13,7 @@ use Rattle.table.specs.Table.{typeOf, verdict}
 use Rattle.view.specs.View.{View, Change}
 use Rattle.view.specs.Steps.{Call, act, Reply, permitted, changes, isRefusal, checksOf, Passes, AllPass, Carries, puts, takes, is-denied, is-permitted}
 use Rattle.view.proofs.StepLaws.{Ends, is-refused, is-carried, ends, refusal-refuses, refusal-keeps}
-use Rattle.runs.specs.Events.{Event, event, Effect, none, put, off, read, effectOf, effectAt, isOff, Standing, nothing, rule, followed, after, onPlace, takenOff}
+use Rattle.runs.specs.Events.{Event, event, Effect, none, put, off, read, effectOf, effectAt, isOff, PlaceState, nothing, rule, followed, afterEffect, onPlace, takenOff}
 use Rattle.runs.specs.Runs.{StepOn, Run, called}
 use Rattle.runs.specs.Verdicts.{FirstFulfilled}
 use Rattle.runs.proofs.Rules.{fulfilled-stays, unfulfilled-exactly}
@@ -62,7 +62,7 @@ put-free {events} {view} r {places} {call} {reply} {change} p i table e = by (en
     by (is-carried all d) e = done-at all d e
 
 -- The place holds the table, fulfilled.
-record StillFulfilled (on : Standing) (table : List ℕ) : Type 0 where
+record StillFulfilled (on : PlaceState) (table : List ℕ) : Type 0 where
   since : List ℕ
   holds : on ≡ rule table since
   fulfilled : verdict table since ≡ true
@@ -72,7 +72,7 @@ not-off true rest e = not-both e
 not-off false rest e = (refl, e)
 
 module _ (table : List ℕ) (watched : typeOf table ≡ 2) where
-  kept-by : (x : Standing) (e : Effect) → isOff e ≡ false → ((other : List ℕ) → e ≡ put other → x ≡ nothing) → StillFulfilled x table → StillFulfilled (after e x) table
+  kept-by : (x : PlaceState) (e : Effect) → isOff e ≡ false → ((other : List ℕ) → e ≡ put other → x ≡ nothing) → StillFulfilled x table → StillFulfilled (afterEffect e x) table
   kept-by x none o f k = k
   kept-by x (put other) o f k = no-rule (sym (f other refl) ∙ k .holds)
   kept-by x off o f k = not-both o

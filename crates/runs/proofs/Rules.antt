@@ -12,7 +12,7 @@ use borrow.Author.Tests.{eqb-true, eqb-false}
 use Rattle.trace.specs.Trace.{Sequence, Move, trip, go, Step, after, run, tripped}
 use Rattle.trace.proofs.Laws.{not-both, run-trip, run-append}
 use Rattle.automaton.specs.Machine.{moveBy}
-use Rattle.table.specs.Table.{typeOf, actionsOf, rowsOf, rowStep, WellFormed, judged, verdict}
+use Rattle.table.specs.Table.{typeOf, actionsOf, rowsOf, rowStep, WellFormed, verdictBy, verdict}
 use Rattle.places.specs.Places.{taken}
 use Rattle.view.specs.Possible.{CaseFits}
 use Rattle.view.specs.Moves.{entryAt, denies, moved, fulfils, firstCase}
@@ -61,10 +61,10 @@ tripped-stays f (go row) w e = not-both (sym e)
 
 module _ (table : List ℕ) where
   enforced-verdict : typeOf table ≡ 1 → (w : List ℕ) → verdict table w ≡ not (tripped (run (rowStep table) (go 0) w))
-  enforced-verdict t w = ap (λ (n : ℕ). judged n (tripped (run (rowStep table) (go 0) w))) t
+  enforced-verdict t w = ap (λ (n : ℕ). verdictBy n (tripped (run (rowStep table) (go 0) w))) t
 
   watched-verdict : typeOf table ≡ 2 → (w : List ℕ) → verdict table w ≡ tripped (run (rowStep table) (go 0) w)
-  watched-verdict t w = ap (λ (n : ℕ). judged n (tripped (run (rowStep table) (go 0) w))) t
+  watched-verdict t w = ap (λ (n : ℕ). verdictBy n (tripped (run (rowStep table) (go 0) w))) t
 
   -- A fulfilled rule stays fulfilled.
   pub fulfilled-stays : typeOf table ≡ 2 → (v w : List ℕ) → verdict table v ≡ true → verdict table (v ++ w) ≡ true

@@ -14,7 +14,7 @@ use Rattle.view.specs.View.{View, Change}
 use Rattle.view.specs.Steps.{act, Reply, permitted, denied, changes}
 use Rattle.runs.specs.Events.{Event, rule, onPlace}
 use Rattle.runs.specs.Runs.{StepOn, Run}
-use Rattle.runs.specs.Verdicts.{Listed, Violated, NoneViolated, FirstFulfilled, Judges, permits, denies-lowest, IsPermitted}
+use Rattle.runs.specs.Verdicts.{ActionListed, Violated, NoneViolated, FirstFulfilled, Judges, permits, denies-lowest, IsPermitted}
 use Rattle.runs.proofs.State.{run-state}
 use Rattle.runs.proofs.Actions.{carried-judges}
 use Rattle.runs.proofs.Refusals.{run-exactly, run-carried}
@@ -25,12 +25,12 @@ not-permitted place p = not-both (sym (ap changes (p .1)))
 
 module _ {events : List Event} {view : View} (r : Run events view) where
   -- The answer to an action of the list: permitted with the set of the places that it fulfils, or denied with the lowest place that it violates.
-  pub run-judges : {action : ℕ} → Listed events action → {places : ℕ} {reply : Reply} {change : Change} → StepOn places view (act action) reply change → Judges events action reply
+  pub run-judges : {action : ℕ} → ActionListed events action → {places : ℕ} {reply : Reply} {change : Change} → StepOn places view (act action) reply change → Judges events action reply
   run-judges {action} l p = carried-judges events (run-state r) action (p .above) (run-carried r p l)
 
   -- An action of the list is permitted exactly when no enforced rule is violated by the actions permitted since that rule was put on, followed
   -- by this one.
-  pub run-permit-exactly : {action : ℕ} → Listed events action → {places : ℕ} {reply : Reply} {change : Change} → StepOn places view (act action) reply change
+  pub run-permit-exactly : {action : ℕ} → ActionListed events action → {places : ℕ} {reply : Reply} {change : Change} → StepOn places view (act action) reply change
       → IsPermitted reply ↔ NoneViolated events action
   run-permit-exactly {action} l p = by (run-judges l p)
     where
@@ -40,7 +40,7 @@ module _ {events : List Event} {view : View} (r : Run events view) where
           (not-permitted place, λ n. not-both (sym (n place (v .table) (v .since) (v .on) (v .enforced)) ∙ v .violated))
 
   -- Otherwise it is denied, with the lowest place whose enforced rule is violated.
-  pub run-deny-otherwise : {action : ℕ} → Listed events action → {places : ℕ} {reply : Reply} {change : Change} → StepOn places view (act action) reply change
+  pub run-deny-otherwise : {action : ℕ} → ActionListed events action → {places : ℕ} {reply : Reply} {change : Change} → StepOn places view (act action) reply change
       → (NoneViolated events action → ⊥) → (place : ℕ) × (reply ≡ denied place) × Violated events action place × ((i : ℕ) → i < place → Violated events action i → ⊥)
   run-deny-otherwise {action} l p n = by (run-judges l p)
     where
@@ -51,7 +51,7 @@ module _ {events : List Event} {view : View} (r : Run events view) where
 
   -- A board that holds only watched rules permits every action in its list.
   pub run-only-watched : ((i : ℕ) (table since : List ℕ) → onPlace events i ≡ rule table since → typeOf table ≡ 2)
-      → {action : ℕ} → Listed events action → {places : ℕ} {reply : Reply} {change : Change} → StepOn places view (act action) reply change → IsPermitted reply
+      → {action : ℕ} → ActionListed events action → {places : ℕ} {reply : Reply} {change : Change} → StepOn places view (act action) reply change → IsPermitted reply
   run-only-watched watched {action} l p = run-permit-exactly l p .1 none
     where
       none : NoneViolated events action

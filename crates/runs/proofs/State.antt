@@ -14,7 +14,7 @@ use Rattle.view.specs.View.{View, emptyView, Change, sets, moves, viewAfter}
 use Rattle.view.specs.Moves.{firstCase, denies, moved, movedAt, NoneDenies}
 use Rattle.view.specs.Steps.{Call, Reply, changes, isRefusal, checksOf, Passes, AllPass, SameActions, InList, Carries, puts, takes, is-denied, is-permitted}
 use Rattle.view.proofs.StepLaws.{Ends, is-refused, is-carried, ends, refusal-refuses, refusal-keeps}
-use Rattle.runs.specs.Events.{Event, event, none, put, off, effectOf, effectAt, Standing, nothing, rule, followed, after, onPlace}
+use Rattle.runs.specs.Events.{Event, event, none, put, off, effectOf, effectAt, PlaceState, nothing, rule, followed, afterEffect, onPlace}
 use Rattle.runs.specs.Runs.{StepOn, Run, start, called, PlaceIs, StateIs}
 use Rattle.runs.proofs.Rules.{moved-after, first-after}
 use Rattle.runs.proofs.Places.{no-rule, same-table, keeps, rule-taken, taken-rule}
@@ -22,7 +22,7 @@ use Rattle.runs.proofs.Places.{no-rule, same-table, keeps, rule-taken, 
 start-state : StateIs (onPlace []) emptyView
 start-state = record { each = λ i. refl; one = λ i j table other since since' e f. no-rule e }
 
-module _ {on : ℕ → Standing} {view : View} (s : StateIs on view) where
+module _ {on : ℕ → PlaceState} {view : View} (s : StateIs on view) where
   -- every rule has the table's number of actions
   pub agreeing : {places : ℕ} → ((i : ℕ) → taken (view .case i) ≡ true → i < places) → (table : List ℕ) → SameActions places view (actionsOf table)
       → (i : ℕ) (other since : List ℕ) → on i ≡ rule other since → actionsOf other ≡ actionsOf table
@@ -31,35 +31,35 @@ module _ {on : ℕ → Standing} {view : View} (s : StateIs on view) where
 
   -- Putting on.
   module _ (place : ℕ) (table : List ℕ) (ok : Accepted table) (agrees : (i : ℕ) (other since : List ℕ) → on i ≡ rule other since → actionsOf other ≡ actionsOf table) where
-    put-agreeing : (i : ℕ) (b : Bool) (other since : List ℕ) → after (cond b (put table) none) (on i) ≡ rule other since → actionsOf other ≡ actionsOf table
+    put-agreeing : (i : ℕ) (b : Bool) (other since : List ℕ) → afterEffect (cond b (put table) none) (on i) ≡ rule other since → actionsOf other ≡ actionsOf table
     put-agreeing i true other since e = sym (ap actionsOf (same-table e))
     put-agreeing i false other since e = agrees i other since e
 
-    put-state : StateIs (λ i. after (cond (eqb place i) (put table) none) (on i)) (viewAfter (sets place (firstCase (typeOf table)) table) view)
+    put-state : StateIs (λ i. afterEffect (cond (eqb place i) (put table) none) (on i)) (viewAfter (sets place (firstCase (typeOf table)) table) view)
     put-state =
         record {
           each = λ i. at i (eqb place i);
           one = λ i j t u since since' e f. put-agreeing i (eqb place i) t since e ∙ sym (put-agreeing j (eqb place j) u since' f);
         }
       where
-        at : (i : ℕ) (b : Bool) → PlaceIs (cond b table (view .table i)) (after (cond b (put table) none) (on i)) (cond b (firstCase (typeOf table)) (view .case i))
+        at : (i : ℕ) (b : Bool) → PlaceIs (cond b table (view .table i)) (afterEffect (cond b (put table) none) (on i)) (cond b (firstCase (typeOf table)) (view .case i))
         at i true = record { accepted = ok; stands = refl; sequence = tt; after = first-after table (ok .formed) }
         at i false = s .each i
 
   -- Taking off.
   module _ (place : ℕ) where
-    still : (i : ℕ) (b : Bool) (table since : List ℕ) → after (cond b off none) (on i) ≡ rule table since → on i ≡ rule table since
+    still : (i : ℕ) (b : Bool) (table since : List ℕ) → afterEffect (cond b off none) (on i) ≡ rule table since → on i ≡ rule table since
     still i true table since e = no-rule e
     still i false table since e = e
 
-    take-state : StateIs (λ i. after (cond (eqb place i) off none) (on i)) (viewAfter (sets place Empty []) view)
+    take-state : StateIs (λ i. afterEffect (cond (eqb place i) off none) (on i)) (viewAfter (sets place Empty []) view)
     take-state =
         record {
           each = λ i. at i (eqb place i);
           one = λ i j t u since since' e f. s .one i j t u since since' (still i (eqb place i) t since e) (still j (eqb place j) u since' f);
         }
       where
-        at : (i : ℕ) (b : Bool) → PlaceIs (cond b [] (view .table i)) (after (cond b off none) (on i)) (cond b Empty (view .case i))
+        at : (i : ℕ) (b : Bool) → PlaceIs (cond b [] (view .table i)) (afterEffect (cond b off none) (on i)) (cond b Empty (view .case i))
         at i true = refl
         at i false = s .each i
 
@@ -71,11 +71,11 @@ module _ {on : ℕ → Standing} {view : View} (s : StateIs on view) where
         let (other, since', f) = taken-rule s (l .place) (l .on) in
         subst (λ (n : ℕ). action < n) (ap actionsOf (keeps s (l .place) other since' f .stands) ∙ s .one (l .place) i other table since' since f e) (l .listed)
 
-    followed-rule : (x : Standing) (table since : List ℕ) → followed action x ≡ rule table since → (before : List ℕ) × (x ≡ rule table before)
+    followed-rule : (x : PlaceState) (table since : List ℕ) → followed action x ≡ rule table since → (before : List ℕ) × (x ≡ rule table before)
     followed-rule nothing table since e = no-rule e
     followed-rule (rule other before) table since e = (before, ap (λ (t : List ℕ). rule t before) (same-table e))
 
-    followed-place : (stored : List ℕ) (x : Standing) (c : Case) → PlaceIs stored x c
+    followed-place : (stored : List ℕ) (x : PlaceState) (c : Case) → PlaceIs stored x c
         → ((table since : List ℕ) → x ≡ rule table since → (action < actionsOf table) × (denies stored action c ≡ false))
         → PlaceIs stored (followed action x) (moved stored action c)
     followed-place stored nothing c p f = ap (moved stored action) p
@@ -105,7 +105,7 @@ module _ {on : ℕ → Standing} {view : View} (s : StateIs on view) where
   -- One more call.
   after-carried : {places : ℕ} → ((i : ℕ) → taken (view .case i) ≡ true → i < places) → {call : Call} {reply : Reply} {change : Change}
       → AllPass (Passes (Unit {0}) (Unit {0}) places view) (checksOf call) → Carries places view call reply change
-      → StateIs (λ i. after (effectAt (event call reply) i) (on i)) (viewAfter change view)
+      → StateIs (λ i. afterEffect (effectAt (event call reply) i) (on i)) (viewAfter change view)
   after-carried above all (puts {place = place} {table = table}) =
       let loaded = all .1 .1 .1 .1 in
       put-state place table (record { formed = loaded .0; canonical = loaded .1 .0 }) (agreeing above table (loaded .1 .1 .0))
@@ -114,15 +114,15 @@ module _ {on : ℕ → Standing} {view : View} (s : StateIs on view) where
   after-carried above all (is-permitted {action = action} n) = read-state action above (all .1 .1 .1 .0) n
 
   pub after-step : {places : ℕ} {call : Call} {reply : Reply} {change : Change} → StepOn places view call reply change
-      → StateIs (λ i. after (effectAt (event call reply) i) (on i)) (viewAfter change view)
+      → StateIs (λ i. afterEffect (effectAt (event call reply) i) (on i)) (viewAfter change view)
   after-step {places} {call} {reply} {change} p = by (ends (p .step))
     where
-      kept : (b : Bool) → b ≡ false → StateIs (λ i. after (cond b (effectOf call i) none) (on i)) view
+      kept : (b : Bool) → b ≡ false → StateIs (λ i. afterEffect (cond b (effectOf call i) none) (on i)) view
       kept true e = not-both e
       kept false e = s
 
       by : Ends (Passes (Unit {0}) (Unit {0}) places view) (Carries places view call) (checksOf call) reply change
-          → StateIs (λ i. after (effectAt (event call reply) i) (on i)) (viewAfter change view)
+          → StateIs (λ i. afterEffect (effectAt (event call reply) i) (on i)) (viewAfter change view)
       by (is-refused check n r c) = rw c (kept (changes reply) (refusal-keeps reply (ap isRefusal r ∙ refusal-refuses check)))
       by (is-carried all d) = after-carried (p .above) all d
 

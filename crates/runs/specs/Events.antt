@@ -29,25 +29,25 @@ abbrev pub effectAt : Event → ℕ → Effect
 effectAt (event call reply) i = cond (changes reply) (effectOf call i) none
 
 -- What events say of a place: nothing is on it, or the rule of a table, with the actions that it has read since it was put on, in their order.
-pub data Standing : Type 0 where
-  nothing : Standing
-  rule : (table since : List ℕ) → Standing
+pub data PlaceState : Type 0 where
+  nothing : PlaceState
+  rule : (table since : List ℕ) → PlaceState
 
 -- one more action
-abbrev pub followed : ℕ → Standing → Standing
+abbrev pub followed : ℕ → PlaceState → PlaceState
 followed action nothing = nothing
 followed action (rule table since) = rule table (since ++ (action ∷ []))
 
-abbrev pub after : Effect → Standing → Standing
-after none x = x
-after (put table) x = rule table []
-after off x = nothing
-after (read action) x = followed action x
+abbrev pub afterEffect : Effect → PlaceState → PlaceState
+afterEffect none x = x
+afterEffect (put table) x = rule table []
+afterEffect off x = nothing
+afterEffect (read action) x = followed action x
 
 -- The newest event stands first.
-abbrev pub onPlace : List Event → ℕ → Standing
+abbrev pub onPlace : List Event → ℕ → PlaceState
 onPlace [] i = nothing
-onPlace (e ∷ events) i = after (effectAt e i) (onPlace events i)
+onPlace (e ∷ events) i = afterEffect (effectAt e i) (onPlace events i)
 
 abbrev pub isOff : Effect → Bool
 isOff none = false

@@ -4,11 +4,11 @@ use mathlib.Core.Path.{_≡_}
 use mathlib.Core.List.{List, [], _∷_, List·Memᴰ}
 use Prim.Native.Nat.{ℕ}
 use Rattle.view.specs.Steps.{put-on, act, Reply, done}
-use Rattle.runs.specs.Events.{Event, event, Standing, rule, onPlace}
+use Rattle.runs.specs.Events.{Event, event, PlaceState, rule, onPlace}
 
 -- The places hold these tables and no others: every rule is one of them, and has read exactly these actions since it was put on, and each of them is on
 -- some place.
-pub record HoldsOn (on : ℕ → Standing) (tables : List (List ℕ)) (since : List ℕ) : Type 0 where
+pub record HoldsOn (on : ℕ → PlaceState) (tables : List (List ℕ)) (since : List ℕ) : Type 0 where
   pub rules : (i : ℕ) (table actions : List ℕ) → on i ≡ rule table actions → List·Memᴰ table tables × (actions ≡ since)
   pub each : (table : List ℕ) → List·Memᴰ table tables → (i : ℕ) × (on i ≡ rule table since)
 

@@ -10,13 +10,13 @@ use Rattle.places.specs.Places.{taken}
 use Rattle.places.specs.declared.Case.{Case}
 use Rattle.places.specs.declared.Case.the-variants.{Empty, Enforced, Watched, Fulfilled}
 use Rattle.view.specs.View.{View, emptyView, Change, viewAfter}
-use Rattle.view.specs.Steps.{Call, Reply, Step}
-use Rattle.runs.specs.Events.{Event, event, Standing, nothing, rule}
+use Rattle.view.specs.Steps.{Call, Reply, CallStep}
+use Rattle.runs.specs.Events.{Event, event, PlaceState, nothing, rule}
 
 -- A call with a number of places above every taken one, where the area is long enough and the board can be: so 14 and 25 ask nothing.
 pub record StepOn (places : ℕ) (view : View) (call : Call) (reply : Reply) (change : Change) : Type 0 where
   pub above : (i : ℕ) → taken (view .case i) ≡ true → i < places
-  pub step : Step (Unit {0}) (Unit {0}) places view call reply change
+  pub step : CallStep (Unit {0}) (Unit {0}) places view call reply change
 
 -- These events, the newest first, lead from an empty view to this one. Each call has a number of places of its own.
 pub data Run : List Event → View → Type 0 where
@@ -37,11 +37,11 @@ pub record Keeps (stored table since : List ℕ) (case : Case) : Type 0 where
   pub sequence : Sequence (actionsOf table) since
   pub after : CaseAfter table since case
 
-abbrev pub PlaceIs : List ℕ → Standing → Case → Type 0
+abbrev pub PlaceIs : List ℕ → PlaceState → Case → Type 0
 PlaceIs stored nothing case = case ≡ Empty
 PlaceIs stored (rule table since) case = Keeps stored table since case
 
 -- What a board holds is as the events say.
-pub record StateIs (on : ℕ → Standing) (view : View) : Type 0 where
+pub record StateIs (on : ℕ → PlaceState) (view : View) : Type 0 where
   pub each : (i : ℕ) → PlaceIs (view .table i) (on i) (view .case i)
   pub one : (i j : ℕ) (table other since since' : List ℕ) → on i ≡ rule table since → on j ≡ rule other since' → actionsOf table ≡ actionsOf other

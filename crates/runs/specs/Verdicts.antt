@@ -23,7 +23,7 @@ pub record MayTake (places : ℕ) (events : List Event) (place : ℕ) : Type 0 w
   pub on : onPlace events place ≡ nothing → ⊥
 
 -- No refusal stated for an action applies, 24 and 12: the board holds a rule, and the action is of its list.
-pub record Listed (events : List Event) (action : ℕ) : Type 0 where
+pub record ActionListed (events : List Event) (action : ℕ) : Type 0 where
   pub place : ℕ
   pub table : List ℕ
   pub since : List ℕ
@@ -34,7 +34,7 @@ pub record Listed (events : List Event) (action : ℕ) : Type 0 where
 abbrev pub May : (places : ℕ) (events : List Event) → Call → Type 0
 May places events (put-on place table) = MayPut places events place table
 May places events (take-off place) = MayTake places events place
-May places events (act action) = Listed events action
+May places events (act action) = ActionListed events action
 
 -- The place's enforced rule is violated by the actions permitted since it was put on, followed by this one.
 pub record Violated (events : List Event) (action place : ℕ) : Type 0 where

@@ -16,8 +16,9 @@ use Rattle.places.specs.Places.{placeIn, taken, placesBy}
 use Rattle.view.specs.View.{View}
 use Rattle.view.specs.Moves.{denies, moved, fulfils, deniesAt, movedAt, fulfilsAt}
 use Rattle.view.specs.Steps.{InList}
-use Rattle.scan.specs.Survey.{ListedIn, Follows, ReadsPlace, Over, Surveys, joined}
-use Rattle.scan.specs.Scans.{RuleMoves, MovesBy, Sweeps, Playable, Scans}
+use Rattle.place_steps.specs.Moving.{RuleMoves, MovesBy}
+use Rattle.scan.specs.Survey.{ListedIn, ReadsPlace, OverActions, Surveys, foundWith}
+use Rattle.scan.specs.Scans.{Sweeps, Playable, Scans}
 use Rattle.places.specs.declared.Place.{Place}
 use Rattle.places.specs.declared.Case.{Case}
 use Rattle.places.specs.declared.Case.the-variants.{Empty}
@@ -33,7 +34,7 @@ same-count : (known actions action : ℕ) (b : Bool) → eqb actions known ≡ b
 same-count known actions action true e p = (p, omega (arith, p, eqb-true actions known e))
 same-count known actions action false e p = absurd p
 
-playable-parts : (f : Found) (s : Seen) (action : ℕ) → Playable (joined f s) action → Playable f action × ListedIn s action
+playable-parts : (f : Found) (s : Seen) (action : ℕ) → Playable (foundWith f s) action → Playable f action × ListedIn s action
 playable-parts Impossible s action p = absurd p
 playable-parts Vacant Untaken action p = (tt, tt)
 playable-parts Vacant (Fits actions) action p = (tt, p)
@@ -59,7 +60,7 @@ module _ (view : View) (action : ℕ) where
 
   pub scans-more : (n : ℕ) (found : Found) (next : List Place) (denying fulfilled : ℕ) (s : Seen) (entry : ℕ) (case : Case) (d f : Bool)
       → Scans n view action found next denying fulfilled → ReadsPlace (view .table n) (view .case n) action s entry → MovesBy (view .case n) entry case d f
-      → Scans (n + 1) view action (joined found s) (set next n (placeIn case)) (denying + cond d (2 ^ n) 0) (fulfilled + cond f (2 ^ n) 0)
+      → Scans (n + 1) view action (foundWith found s) (set next n (placeIn case)) (denying + cond d (2 ^ n) 0) (fulfilled + cond f (2 ^ n) 0)
   scans-more n found next denying fulfilled s entry case d f w r by =
       record {
         surveys = survey-more view n found s (w .surveys) (r .sees);
@@ -86,13 +87,13 @@ module _ (view : View) (action : ℕ) where
         sweeps = λ p. sweeps-empty n next denying fulfilled (free-empty (view .case n) free) (w .sweeps p);
       }
     where
-      untaken : (f : Found) → joined f Untaken ≡ f
+      untaken : (f : Found) → foundWith f Untaken ≡ f
       untaken Impossible = refl
       untaken Vacant = refl
       untaken (Actions known) = refl
 
   -- the action of a board that it is in the list of
-  pub in-list : (actions : ℕ) → Over placeCount view actions → action < actions → InList placeCount view action
+  pub in-list : (actions : ℕ) → OverActions placeCount view actions → action < actions → InList placeCount view action
   in-list actions o listed =
       let p = o .some in
       record { place = p .place; below = p .below; on = p .on; listed = omega (arith, o .same (p .place) (p .below) (p .on), listed) }

@@ -12,7 +12,7 @@ use Rattle.table.specs.Table.{actionsOf}
 use Rattle.places.specs.Places.{taken}
 use Rattle.view.specs.View.{View}
 use Rattle.view.specs.Possible.{CaseFits, Possible}
-use Rattle.scan.specs.Survey.{Sees, Over, Vacant as NoneOn, Surveys, joined, isImpossible, admitted}
+use Rattle.scan.specs.Survey.{Sees, OverActions, Vacant as NoneOn, Surveys, foundWith, isImpossible, admitted}
 use Rattle.view.specs.Steps.{SameActions, Occupied}
 use Rattle.scan.specs.declared.survey.Seen.{Seen}
 use Rattle.scan.specs.declared.survey.Seen.the-variants.{Untaken, Fits, Misfit}
@@ -40,7 +40,7 @@ module _ (view : View) where
 
   module _ (n : ℕ) where
     over-more : (actions : ℕ) → ((i : ℕ) → i < n → CaseFits (view .table i) (view .case i)) → SameActions n view actions
-        → CaseFits (view .table n) (view .case n) → SameAt actions n → Occupied (n + 1) view → Over (n + 1) view actions
+        → CaseFits (view .table n) (view .case n) → SameAt actions n → Occupied (n + 1) view → OverActions (n + 1) view actions
     over-more actions fits same here count some =
         let more = below-more (SameAt actions) n same count in
         record { possible = over-possible (n + 1) actions (below-more _ n fits here) more; same = more; some = some }
@@ -48,7 +48,7 @@ module _ (view : View) where
     occupied-more : Occupied n view → Occupied (n + 1) view
     occupied-more o = record { place = o .place; below = omega (arith, o .below); on = o .on }
 
-    same-count : (known actions : ℕ) (b : Bool) → eqb actions known ≡ b → Over n view known → Sees (view .table n) (view .case n) (Fits actions)
+    same-count : (known actions : ℕ) (b : Bool) → eqb actions known ≡ b → OverActions n view known → Sees (view .table n) (view .case n) (Fits actions)
         → Surveys (n + 1) view (cond b (Actions known) Impossible)
     same-count known actions true e o s =
         over-more known (o .possible .fits) (o .same) (s .fits) (λ t. s .acting ∙ eqb-true actions known e) (occupied-more (o .some))
@@ -56,7 +56,7 @@ module _ (view : View) where
         λ p. eqb-false actions known e
         (sym (s .acting) ∙ (let q = o .some in p .one n (q .place) (omega arith) (omega (arith, q .below)) (s .on) (q .on) ∙ o .same (q .place) (q .below) (q .on)))
 
-    pub survey-more : (f : Found) (s : Seen) → Surveys n view f → Sees (view .table n) (view .case n) s → Surveys (n + 1) view (joined f s)
+    pub survey-more : (f : Found) (s : Seen) → Surveys n view f → Sees (view .table n) (view .case n) s → Surveys (n + 1) view (foundWith f s)
     survey-more Impossible s k r = λ p. k (fewer n p)
     survey-more Vacant Untaken k r =
         let vacant = below-more _ n (k .1) r in

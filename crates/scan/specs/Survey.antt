@@ -11,8 +11,8 @@ use Rattle.view.specs.View.{View}
 use Rattle.view.specs.Possible.{TableOfType, CaseFits, Possible}
 use Rattle.view.specs.Moves.{entryAt}
 use Rattle.view.specs.Steps.{SameActions, Occupied}
+use Rattle.place_steps.specs.Moving.{Follows}
 use Rattle.places.specs.declared.Case.{Case}
-use Rattle.places.specs.declared.Case.the-variants.{Empty, Enforced, Watched, Fulfilled}
 use Rattle.scan.specs.declared.survey.Seen.{Seen}
 use Rattle.scan.specs.declared.survey.Seen.the-variants as seen
 use Rattle.scan.specs.declared.survey.Found.{Found}
@@ -40,13 +40,6 @@ Sees table case seen.Untaken = taken case ≡ false
 Sees table case (seen.Fits actions) = FitsWith table case actions
 Sees table case seen.Misfit = CaseFits table case → ⊥
 
--- The entry of an action in a rule's row, which moves it; an empty place and a fulfilled rule need none.
-abbrev pub Follows : List ℕ → ℕ → Case → ℕ → Type 0
-Follows table action Empty entry = Unit {0}
-Follows table action (Enforced row) entry = entry ≡ entryAt table row action
-Follows table action (Watched row) entry = entry ≡ entryAt table row action
-Follows table action Fulfilled entry = Unit {0}
-
 -- The action is in the list of what was seen.
 abbrev pub ListedIn : Seen → ℕ → Type 0
 ListedIn seen.Untaken action = Unit {0}
@@ -63,7 +56,7 @@ pub record ReadsPlace (table : List ℕ) (case : Case) (action : ℕ) (s : Seen)
   pub follows : ListedIn s action → Follows table action case entry
 
 -- A board that can be, with a rule on, and every rule over so many actions.
-pub record Over (places : ℕ) (view : View) (actions : ℕ) : Type 0 where
+pub record OverActions (places : ℕ) (view : View) (actions : ℕ) : Type 0 where
   pub possible : Possible places view
   pub same : SameActions places view actions
   pub some : Occupied places view
@@ -76,17 +69,17 @@ Vacant places view = (i : ℕ) → i < places → taken (view .case i) ≡ false
 abbrev pub Surveys : ℕ → View → Found → Type 0
 Surveys places view found.Impossible = Possible places view → ⊥
 Surveys places view found.Vacant = Possible places view × Vacant places view
-Surveys places view (found.Actions actions) = Over places view actions
+Surveys places view (found.Actions actions) = OverActions places view actions
 
 -- What is known of the places below some number, with one place more.
-abbrev pub joined : Found → Seen → Found
-joined found.Impossible s = found.Impossible
-joined found.Vacant seen.Untaken = found.Vacant
-joined found.Vacant (seen.Fits actions) = found.Actions actions
-joined found.Vacant seen.Misfit = found.Impossible
-joined (found.Actions known) seen.Untaken = found.Actions known
-joined (found.Actions known) (seen.Fits actions) = cond (eqb actions known) (found.Actions known) found.Impossible
-joined (found.Actions known) seen.Misfit = found.Impossible
+abbrev pub foundWith : Found → Seen → Found
+foundWith found.Impossible s = found.Impossible
+foundWith found.Vacant seen.Untaken = found.Vacant
+foundWith found.Vacant (seen.Fits actions) = found.Actions actions
+foundWith found.Vacant seen.Misfit = found.Impossible
+foundWith (found.Actions known) seen.Untaken = found.Actions known
+foundWith (found.Actions known) (seen.Fits actions) = cond (eqb actions known) (found.Actions known) found.Impossible
+foundWith (found.Actions known) seen.Misfit = found.Impossible
 
 abbrev pub isImpossible : Found → Bool
 isImpossible found.Impossible = true

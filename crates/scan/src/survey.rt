@@ -6,7 +6,7 @@ use table::Header;
 ghost use mathlib.Core.Path.{_≡_};
 ghost use Rattle.places.specs.Layout.{Within, storedAt};
 ghost use Rattle.view.specs.View.{held};
-ghost use Rattle.scan.specs.Survey.{ReadsRule, ReadsPlace, joined, isImpossible, admitted};
+ghost use Rattle.scan.specs.Survey.{ReadsRule, ReadsPlace, foundWith, isImpossible, admitted};
 
 // A place: not taken, or its table fits its case and has so many actions, or it cannot be.
 pub enum Seen {
@@ -38,7 +38,7 @@ fn rule_at(area: &[u8], place: usize, kind: u8, row: u8, action: usize) -> Place
         mode,
         actions,
         rows,
-    } = table::check_front(bytes)
+    } = well_formed::check_front(bytes)
     else {
         return PlaceRead {
             seen: Seen::Misfit,
@@ -89,7 +89,7 @@ pub fn see(case: Case, area: &[u8], place: usize, action: usize) -> PlaceRead
 
 // What is known with one place more.
 pub fn join(found: Found, seen: Seen) -> Found
-    ensures { λ r. ⌜ r ≡ joined found seen ⌝ }
+    ensures { λ r. ⌜ r ≡ foundWith found seen ⌝ }
 {
     match found {
         Found::Impossible => Found::Impossible,

@@ -1,14 +1,12 @@
 -- One computed test of a sheet and its table, what it says where it passes, and that every starred case passes it.
 -- Assumes nothing.
-use mathlib.Core.Path.{_≡_, refl, sym, _∙_, ap}
+use mathlib.Core.Path.{_≡_, refl, _∙_, ap}
 use mathlib.Core.Bool.{Bool, true, _&&_}
 use mathlib.Core.List.{List, [], _∷_, map}
 use Prim.Native.Nat.{ℕ}
 use lib.Dec.{eqb}
 use borrow.Author.Tests.{eqb-true}
 use Rattle.base.proofs.Truths.{and-true}
-use Rattle.trace.specs.declared.Mode.{Mode}
-use Rattle.trace.specs.declared.Mode.the-variants.{Watched, Enforced}
 use Rattle.trace.specs.Trace.{Sequence, trips}
 use Rattle.automaton.specs.Machine.{transition}
 use Rattle.policy.specs.declared.Bound.{Bound}
@@ -16,29 +14,23 @@ use Rattle.policy.specs.declared.Bound.the-variants.{Unbounded}
 use Rattle.policy.specs.declared.Typing.{Typing}
 use Rattle.policy.specs.declared.Typing.the-variants.{Typed, Untyped}
 use Rattle.policy.specs.Policy.{Policy, satisfies}
-use Rattle.policy.specs.Typing.{typeOf as typingOf}
+use Rattle.policy.specs.Typing.{policyType}
 use Rattle.policy.specs.Trips.{tripsPolicy}
 use Rattle.policy.proofs.Typings.{typed-as}
-use Rattle.policy.proofs.Rules.{watched-satisfied, enforced-satisfied}
+use Rattle.policy.proofs.Rules.{verdict-satisfied}
 use Rattle.syntax.specs.Nodes.{propositionsOf}
 use Rattle.syntax.specs.Meaning.{sheetPolicy}
 use Rattle.typing.specs.Typed.{Judgement, faulty, sound, noTypes}
 use Rattle.syntax.specs.declared.TypedNode.{TypedNode}
-use Rattle.sheet.specs.Judge.{judge}
-use Rattle.sheet.specs.Writing.{sheetBytes}
-use Rattle.table.specs.Table.{typeOf, actionsOf, rowStep, judged, verdict}
+use Rattle.sheet_judge.specs.Judge.{judge}
+use Rattle.sheet_writer.specs.Bytes.{sheetBytes}
+use Rattle.table.specs.Table.{typeOf, actionsOf, rowStep, verdictBy, verdict}
 use Rattle.table.specs.Answer.{modeNumber}
 use Rattle.starred.specs.Right.{Case, Right, AllRight}
 use Rattle.starred.specs.Starred.{starred}
 use Rattle.starred.proofs.Bisimulation.{alikeTest, alike-sound}
 use Rattle.starred.proofs.Tables.{acceptedTest, accepted-sound}
 use Rattle.starred.proofs.Machines.{machineOf, machineTest, machine-sound}
-
--- the verdict of a type, from the trips of a policy of that type
-judged-satisfied : (mode : Mode) (propositions : ℕ → ℕ) (p : Policy) (bound : Bound) → typingOf p ≡ Typed mode bound → (w : List ℕ)
-    → judged (modeNumber mode) (tripsPolicy propositions p w) ≡ satisfies propositions p w
-judged-satisfied Watched propositions p bound e w = sym (watched-satisfied propositions p bound e w)
-judged-satisfied Enforced propositions p bound e w = sym (enforced-satisfied propositions p bound e w)
 
 module _ (case : Case) where
   abbrev actions : ℕ
@@ -61,12 +53,12 @@ module _ (case : Case) where
   abbrev tableTest : Bool
   tableTest = acceptedTest (case .table) && (eqb (actionsOf (case .table)) actions && (eqb (typeOf (case .table)) (modeNumber (case .mode)) && readsTest))
 
-  gives : {bound : Bound} → typingOf policy ≡ Typed (case .mode) bound → typeOf (case .table) ≡ modeNumber (case .mode) → readsTest ≡ true
+  gives : {bound : Bound} → policyType policy ≡ Typed (case .mode) bound → typeOf (case .table) ≡ modeNumber (case .mode) → readsTest ≡ true
       → (w : List ℕ) → Sequence actions w → verdict (case .table) w ≡ satisfies propositions policy w
   gives {bound} t e r w s =
-      ap (judged (typeOf (case .table))) trips-alike
-      ∙ ap (λ (type : ℕ). judged type (tripsPolicy propositions policy w)) e
-      ∙ judged-satisfied (case .mode) propositions policy bound t w
+      ap (verdictBy (typeOf (case .table))) trips-alike
+      ∙ ap (λ (type : ℕ). verdictBy type (tripsPolicy propositions policy w)) e
+      ∙ verdict-satisfied propositions (λ m. verdictBy (modeNumber m)) (λ b. refl) (λ b. refl) (case .mode) policy bound t w
     where
       trips-alike : trips (rowStep (case .table)) 0 w ≡ tripsPolicy propositions policy w
       trips-alike =
@@ -76,7 +68,7 @@ module _ (case : Case) where
 
   -- A case whose sheet is judged sound, whose policy is of the type, and whose table passes the test is right.
   right : {types : List TypedNode} {bound : Bound} → judge (sheetBytes (case .sheet)) ≡ sound (case .mode) (case .sheet) types
-      → typingOf policy ≡ Typed (case .mode) bound → tableTest ≡ true → Right case
+      → policyType policy ≡ Typed (case .mode) bound → tableTest ≡ true → Right case
   right {types} {bound} j t e =
       let a = and-true _ _ e in
       let b = and-true _ _ (a .1) in
@@ -103,7 +95,7 @@ boundOf (Typed mode bound) = bound
 boundOf Untyped = Unbounded
 
 abbrev found : Case → Judgement × Typing
-found case = (judge (sheetBytes (case .sheet)), typingOf (sheetPolicy (case .sheet)))
+found case = (judge (sheetBytes (case .sheet)), policyType (sheetPolicy (case .sheet)))
 
 abbrev asked : Case → Judgement × Typing
 asked case = (sound (case .mode) (case .sheet) (typesOf (found case .0)), Typed (case .mode) (boundOf (found case .1)))

@@ -14,7 +14,7 @@ use Rattle.base.proofs.Truths.{not-true, and-true}
 use Rattle.base.specs.Build.{build}
 use Rattle.trace.specs.Trace.{Move, trip, go, Step, Sequence, trips}
 use Rattle.automaton.specs.Machine.{entryMove, transition}
-use Rattle.policy.specs.Words.{Property}
+use Rattle.policy.specs.Operators.{Property}
 use Rattle.policy.specs.Policy.{Policy}
 use Rattle.policy.specs.Rule.{Rule, onParts, ruleTrips, ruleOf}
 use Rattle.policy.specs.Parts.{AllParts}

@@ -8,14 +8,14 @@ use Rattle.trace.specs.Trace.{Sequence}
 use Rattle.policy.specs.declared.Bound.{Bound}
 use Rattle.policy.specs.declared.Typing.the-variants.{Typed}
 use Rattle.policy.specs.Policy.{satisfies}
-use Rattle.policy.specs.Typing.{typeOf as typingOf}
+use Rattle.policy.specs.Typing.{policyType}
 use Rattle.syntax.specs.Nodes.{propositionsOf}
 use Rattle.syntax.specs.Meaning.{sheetPolicy}
 use Rattle.typing.specs.Typed.{sound}
 use Rattle.syntax.specs.declared.Sheet.{Sheet}
 use Rattle.syntax.specs.declared.TypedNode.{TypedNode}
-use Rattle.sheet.specs.Judge.{judge}
-use Rattle.sheet.specs.Writing.{sheetBytes}
+use Rattle.sheet_judge.specs.Judge.{judge}
+use Rattle.sheet_writer.specs.Bytes.{sheetBytes}
 use Rattle.table.specs.Table.{typeOf, actionsOf, Accepted, verdict}
 use Rattle.table.specs.Answer.{modeNumber}
 
@@ -31,7 +31,7 @@ pub record Right (case : Case) : Type 0 where
   pub types : List TypedNode
   pub judged : judge (sheetBytes (case .sheet)) ≡ sound (case .mode) (case .sheet) types
   pub bound : Bound
-  pub typed : typingOf (sheetPolicy (case .sheet)) ≡ Typed (case .mode) bound
+  pub typed : policyType (sheetPolicy (case .sheet)) ≡ Typed (case .mode) bound
   pub accepted : Accepted (case .table)
   pub acting : actionsOf (case .table) ≡ case .sheet .actions
   pub type : typeOf (case .table) ≡ modeNumber (case .mode)

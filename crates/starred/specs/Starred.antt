@@ -8,7 +8,8 @@ use Rattle.trace.specs.declared.Mode.the-variants.{Watched, Enforced}
 use Rattle.table.specs.Answer.{modeNumber}
 use Rattle.syntax.specs.declared.Node.{Node}
 use Rattle.syntax.specs.declared.Node.the-variants.{True, False, Proposition, Negation, Now, Holds, Count, Not, Eventually, Always, BeforePlus, AfterPlus, Fulfilling, Ignoring}
-use Rattle.starred.specs.Written.{sheetOf, tableOf}
+use Rattle.sheet_writer.specs.Sheets.{listedSheet}
+use Rattle.starred.specs.Written.{tableOf}
 use Rattle.starred.specs.Right.{Case}
 
 -- Actions 0 charge, 1 drop, 2 tray, 3 log, each with the one proposition of its number; and the same with an action 4 that is both charge
@@ -43,7 +44,7 @@ row5 a b c d e = a ∷ b ∷ c ∷ d ∷ e ∷ []
 
 -- a sheet's actions and nodes, and its table's rows
 abbrev case : Mode → (actions : List ℕ) → (nodes : List Node) → (rows : List (List ℕ)) → Case
-case mode actions nodes rows = record { mode = mode; sheet = sheetOf actions nodes; table = tableOf (modeNumber mode) (length actions) rows }
+case mode actions nodes rows = record { mode = mode; sheet = listedSheet actions nodes; table = tableOf (modeNumber mode) (length actions) rows }
 
 abbrev enforced : (actions : List ℕ) → (nodes : List Node) → (rows : List (List ℕ)) → Case
 enforced = case Enforced

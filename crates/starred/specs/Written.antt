@@ -1,26 +1,9 @@
--- Sheets and tables written out: a sheet by its actions and its nodes, a table by its rows (docs/FORMATS.md, "The rule sheet" and "The table").
+-- A table written out by its rows (docs/FORMATS.md, "The table").
 -- Assumes nothing.
-use mathlib.Core.List.{List, [], _∷_, _++_, map}
+use mathlib.Core.List.{List, [], _∷_, _++_}
 use Prim.Native.Nat.{ℕ}
-use lib.ListN.{length, drop}
+use lib.ListN.{length}
 use Rattle.base.specs.Word.{wordBytes}
-use Rattle.syntax.specs.Nodes.{noNodes, noPropositions}
-use Rattle.syntax.specs.declared.ListedNode.{ListedNode}
-use Rattle.syntax.specs.declared.Node.{Node}
-use Rattle.syntax.specs.declared.Sheet.{Sheet}
-
-abbrev listed : Node → ListedNode
-listed node = record { node = node }
-
--- `actions` are the actions' propositions.
-abbrev pub sheetOf : (actions : List ℕ) → (nodes : List Node) → Sheet
-sheetOf actions nodes =
-    record {
-      actions = length actions;
-      propositions = actions ++ drop (length actions) noPropositions;
-      count = length nodes;
-      nodes = map listed nodes ++ drop (length nodes) noNodes;
-    }
 
 abbrev rowsBytes : List (List ℕ) → List ℕ
 rowsBytes [] = []

@@ -1,2 +1,3 @@
+pub mod EqualParts
 pub mod Modes
 pub mod NodeTypes

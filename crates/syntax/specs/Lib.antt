@@ -1,4 +1,5 @@
 pub mod Nodes
+pub mod Shape
 pub mod Faults
 pub mod Formed
 pub mod Types

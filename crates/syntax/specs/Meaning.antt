@@ -6,8 +6,8 @@ use lib.ListN.{getD}
 use Rattle.policy.specs.Formula.{Formula, always-true, always-false, proposition, negation, conjunction, disjunction}
 use Rattle.policy.specs.Policy.{Policy, now, holds-first, count, not-p, and-p, or-p, eventually, always, before-, before+, after-, after+, fulfilling, ignoring}
 use Rattle.syntax.specs.Nodes.{nodeAt}
+use Rattle.syntax.specs.Shape.{True, False, Proposition, Count, Negation, Now, Holds, Not, Eventually, Always, Conjunction, Disjunction, And, Or, BeforeMinus, BeforePlus, AfterMinus, AfterPlus, Ignoring, Fulfilling, Shape, leaf, unary, binary, ternary, shapeOf, withParts}
 use Rattle.syntax.specs.declared.Node.{Node}
-use Rattle.syntax.specs.declared.Node.the-variants.{True, False, Proposition, Negation, Conjunction, Disjunction, Now, Holds, Count, Not, And, Or, Eventually, Always, BeforeMinus, BeforePlus, AfterMinus, AfterPlus, Fulfilling, Ignoring}
 use Rattle.syntax.specs.declared.ListedNode.{ListedNode}
 use Rattle.syntax.specs.declared.Sheet.{Sheet}
 
@@ -24,34 +24,42 @@ abbrev pub asPolicy : Meaning → Policy
 asPolicy (formula f) = now f
 asPolicy (policy p) = p
 
+-- The meaning of a node over those of its parts.
+abbrev pub meaningFrom : Shape Meaning → Meaning
+meaningFrom (leaf True) = formula always-true
+meaningFrom (leaf False) = formula always-false
+meaningFrom (leaf (Proposition p)) = formula (proposition p)
+meaningFrom (unary Negation a) = formula (negation (asFormula a))
+meaningFrom (binary Conjunction a b) = formula (conjunction (asFormula a) (asFormula b))
+meaningFrom (binary Disjunction a b) = formula (disjunction (asFormula a) (asFormula b))
+meaningFrom (unary Now a) = policy (now (asFormula a))
+meaningFrom (unary Holds a) = policy (holds-first (asFormula a))
+meaningFrom (leaf (Count k)) = policy (count k)
+meaningFrom (unary Not a) = policy (not-p (asPolicy a))
+meaningFrom (binary And a b) = policy (and-p (asPolicy a) (asPolicy b))
+meaningFrom (binary Or a b) = policy (or-p (asPolicy a) (asPolicy b))
+meaningFrom (unary Eventually a) = policy (eventually (asPolicy a))
+meaningFrom (unary Always a) = policy (always (asPolicy a))
+meaningFrom (binary BeforeMinus a b) = policy (before- (asPolicy a) (asPolicy b))
+meaningFrom (binary BeforePlus a b) = policy (before+ (asPolicy a) (asPolicy b))
+meaningFrom (binary AfterMinus a b) = policy (after- (asPolicy a) (asPolicy b))
+meaningFrom (binary AfterPlus a b) = policy (after+ (asPolicy a) (asPolicy b))
+meaningFrom (ternary (Fulfilling k) a b c) = policy (fulfilling k (asPolicy a) (asPolicy b) (asPolicy c))
+meaningFrom (binary Ignoring a b) = policy (ignoring (asFormula a) (asPolicy b))
+
+-- The meaning of node i among those before.
+abbrev pub meaningAt : List Meaning → ℕ → Meaning
+meaningAt before i = getD before i (formula always-false)
+
 abbrev pub formulaAt : List Meaning → ℕ → Formula
-formulaAt before i = asFormula (getD before i (formula always-false))
+formulaAt before i = asFormula (meaningAt before i)
 
 abbrev pub policyAt : List Meaning → ℕ → Policy
-policyAt before i = asPolicy (getD before i (formula always-false))
+policyAt before i = asPolicy (meaningAt before i)
 
 -- The meaning of a node from those of the nodes before it.
 abbrev pub meaningOf : List Meaning → Node → Meaning
-meaningOf before True = formula always-true
-meaningOf before False = formula always-false
-meaningOf before (Proposition p) = formula (proposition p)
-meaningOf before (Negation a) = formula (negation (formulaAt before a))
-meaningOf before (Conjunction a b) = formula (conjunction (formulaAt before a) (formulaAt before b))
-meaningOf before (Disjunction a b) = formula (disjunction (formulaAt before a) (formulaAt before b))
-meaningOf before (Now a) = policy (now (formulaAt before a))
-meaningOf before (Holds a) = policy (holds-first (formulaAt before a))
-meaningOf before (Count k) = policy (count k)
-meaningOf before (Not a) = policy (not-p (policyAt before a))
-meaningOf before (And a b) = policy (and-p (policyAt before a) (policyAt before b))
-meaningOf before (Or a b) = policy (or-p (policyAt before a) (policyAt before b))
-meaningOf before (Eventually a) = policy (eventually (policyAt before a))
-meaningOf before (Always a) = policy (always (policyAt before a))
-meaningOf before (BeforeMinus a b) = policy (before- (policyAt before a) (policyAt before b))
-meaningOf before (BeforePlus a b) = policy (before+ (policyAt before a) (policyAt before b))
-meaningOf before (AfterMinus a b) = policy (after- (policyAt before a) (policyAt before b))
-meaningOf before (AfterPlus a b) = policy (after+ (policyAt before a) (policyAt before b))
-meaningOf before (Fulfilling k a b c) = policy (fulfilling k (policyAt before a) (policyAt before b) (policyAt before c))
-meaningOf before (Ignoring a b) = policy (ignoring (formulaAt before a) (policyAt before b))
+meaningOf before node = meaningFrom (withParts (meaningAt before) (shapeOf node))
 
 -- The meanings of the first n nodes.
 abbrev pub meanings : List ListedNode → ℕ → List Meaning

@@ -8,7 +8,7 @@ use Rattle.syntax.specs.declared.Node.the-variants.{True}
 use Rattle.syntax.specs.declared.ListedNode.{ListedNode}
 use Rattle.syntax.specs.declared.Sheet.{Sheet}
 
--- What stands behind the last node of a list of 64, and behind the last action of a list of 16.
+-- What stands after the last node of a list of 64, and after the last action of a list of 16.
 abbrev pub noNodes : List ListedNode
 noNodes = replicate 64 (record { node = True })
 
@@ -25,3 +25,7 @@ nodeOf sheet n = nodeAt (sheet .nodes) n
 -- Entry a of the action list: bit p is set when the action satisfies proposition p.
 abbrev pub propositionsOf : Sheet → ℕ → ℕ
 propositionsOf sheet a = getD (sheet .propositions) a 0
+
+-- A sheet by its fields.
+abbrev pub sheetOf : (actions : ℕ) (propositions : List ℕ) (count : ℕ) (nodes : List ListedNode) → Sheet
+sheetOf actions propositions count nodes = record { actions = actions; propositions = propositions; count = count; nodes = nodes }

@@ -12,8 +12,8 @@ use Rattle.policy.specs.declared.Bound.the-variants.{Finite as finite, Unbounde
 use Rattle.policy.specs.declared.Typing.{Typing}
 use Rattle.policy.specs.declared.Typing.the-variants.{Typed as typed, Untyped as untyped}
 use Rattle.policy.specs.Typing.{onMode, ifWatched, ifEnforced, alikeTyped, typeNow, typeHolds, typeCount, typeNot, typeEventually, typeAlways, typeBefore-, typeBefore+, typeAfter-, typeAfter+, typeFulfilling, typeIgnoring}
+use Rattle.syntax.specs.Shape.{True, False, Proposition, Count, Negation, Now, Holds, Not, Eventually, Always, Conjunction, Disjunction, And, Or, BeforeMinus, BeforePlus, AfterMinus, AfterPlus, Ignoring, Fulfilling, Shape, leaf, unary, binary, ternary, shapeOf, withParts}
 use Rattle.syntax.specs.declared.Node.{Node}
-use Rattle.syntax.specs.declared.Node.the-variants.{True, False, Proposition, Negation, Conjunction, Disjunction, Now, Holds, Count, Not, And, Or, Eventually, Always, BeforeMinus, BeforePlus, AfterMinus, AfterPlus, Fulfilling, Ignoring}
 use Rattle.syntax.specs.declared.NodeType.{NodeType}
 use Rattle.syntax.specs.declared.NodeType.the-variants.{Unused, Formula, Policy}
 use Rattle.syntax.specs.declared.TypedNode.{TypedNode}
@@ -49,26 +49,29 @@ abbrev pub found : Typing → TypeFound
 found (typed m k) = cond (boundFits k) (Fits (Policy m k)) TooLong
 found untyped = Unfit
 
+-- The type of a node over those of its parts.
+abbrev pub typeFrom : Shape NodeType → TypeFound
+typeFrom (leaf True) = Fits Formula
+typeFrom (leaf False) = Fits Formula
+typeFrom (leaf (Proposition p)) = Fits Formula
+typeFrom (unary Negation a) = ifFormula a (Fits Formula)
+typeFrom (binary Conjunction a b) = ifFormula a (ifFormula b (Fits Formula))
+typeFrom (binary Disjunction a b) = ifFormula a (ifFormula b (Fits Formula))
+typeFrom (unary Now a) = ifFormula a (found typeNow)
+typeFrom (unary Holds a) = ifFormula a (found typeHolds)
+typeFrom (leaf (Count k)) = found (typeCount k)
+typeFrom (unary Not a) = found (typeNot (typingOf a))
+typeFrom (binary And a b) = found (alikeTyped (typingOf a) (typingOf b))
+typeFrom (binary Or a b) = found (alikeTyped (typingOf a) (typingOf b))
+typeFrom (unary Eventually a) = found (typeEventually (typingOf a))
+typeFrom (unary Always a) = found (typeAlways (typingOf a))
+typeFrom (binary BeforeMinus a b) = found (typeBefore- (typingOf a) (typingOf b))
+typeFrom (binary BeforePlus a b) = found (typeBefore+ (typingOf a) (typingOf b))
+typeFrom (binary AfterMinus a b) = found (typeAfter- (typingOf a) (typingOf b))
+typeFrom (binary AfterPlus a b) = found (typeAfter+ (typingOf a) (typingOf b))
+typeFrom (ternary (Fulfilling k) a b c) = found (typeFulfilling k (typingOf a) (typingOf b) (typingOf c))
+typeFrom (binary Ignoring a b) = ifFormula a (found (typeIgnoring (typingOf b)))
+
 -- `types i` is the type of node i.
 abbrev pub typeNode : Node → (ℕ → NodeType) → TypeFound
-typeNode True types = Fits Formula
-typeNode False types = Fits Formula
-typeNode (Proposition p) types = Fits Formula
-typeNode (Negation a) types = ifFormula (types a) (Fits Formula)
-typeNode (Conjunction a b) types = ifFormula (types a) (ifFormula (types b) (Fits Formula))
-typeNode (Disjunction a b) types = ifFormula (types a) (ifFormula (types b) (Fits Formula))
-typeNode (Now a) types = ifFormula (types a) (found typeNow)
-typeNode (Holds a) types = ifFormula (types a) (found typeHolds)
-typeNode (Count k) types = found (typeCount k)
-typeNode (Not a) types = found (typeNot (typingOf (types a)))
-typeNode (And a b) types = found (alikeTyped (typingOf (types a)) (typingOf (types b)))
-typeNode (Or a b) types = found (alikeTyped (typingOf (types a)) (typingOf (types b)))
-typeNode (Eventually a) types = found (typeEventually (typingOf (types a)))
-typeNode (Always a) types = found (typeAlways (typingOf (types a)))
-typeNode (BeforeMinus a b) types = found (typeBefore- (typingOf (types a)) (typingOf (types b)))
-typeNode (BeforePlus a b) types = found (typeBefore+ (typingOf (types a)) (typingOf (types b)))
-typeNode (AfterMinus a b) types = found (typeAfter- (typingOf (types a)) (typingOf (types b)))
-typeNode (AfterPlus a b) types = found (typeAfter+ (typingOf (types a)) (typingOf (types b)))
-typeNode (Fulfilling k a b c) types =
-    found (typeFulfilling k (typingOf (types a)) (typingOf (types b)) (typingOf (types c)))
-typeNode (Ignoring a b) types = ifFormula (types a) (found (typeIgnoring (typingOf (types b))))
+typeNode node types = typeFrom (withParts types (shapeOf node))

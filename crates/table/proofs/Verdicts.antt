@@ -17,7 +17,7 @@ use Rattle.automaton.specs.Machine.{Machine, transition}
 use Rattle.automaton.specs.Minimal.{RowsOf}
 use Rattle.automaton.proofs.Canonical.{fewest}
 use Rattle.automaton.proofs.MinimalRows.{rows-unique}
-use Rattle.table.specs.Table.{typeOf, actionsOf, rowsOf, entriesOf, rowStep, HeaderFits, WellFormed, Canonical, Accepted, judged, SameVerdicts}
+use Rattle.table.specs.Table.{typeOf, actionsOf, rowsOf, entriesOf, rowStep, HeaderFits, WellFormed, Canonical, Accepted, verdictBy, SameVerdicts}
 use Rattle.table.proofs.Formed.{machine}
 use Rattle.table.proofs.SharedRows.{accepted-rows}
 
@@ -31,7 +31,7 @@ type12 n l h =
     elim (ℕ-discrete n 1) [ yes p ↦ subst Type12 (sym p) one | no q ↦ subst (λ (m : ℕ). Type12 m) (let z : 2 ≡ n = omega arith in z) two ]
 
 -- the empty sequence tells the types apart
-same-type : {m n : ℕ} → Type12 m → Type12 n → judged m false ≡ judged n false → m ≡ n
+same-type : {m n : ℕ} → Type12 m → Type12 n → verdictBy m false ≡ verdictBy n false → m ≡ n
 same-type one one e = refl
 same-type one two e = not-both e
 same-type two one e = not-both (sym e)
@@ -44,7 +44,7 @@ not-inj false true e = not-both e
 not-inj false false e = refl
 
 -- one type, one verdict, one trip
-same-trip : {m : ℕ} → Type12 m → (a b : Bool) → judged m a ≡ judged m b → a ≡ b
+same-trip : {m : ℕ} → Type12 m → (a b : Bool) → verdictBy m a ≡ verdictBy m b → a ≡ b
 same-trip one a b e = not-inj a b e
 same-trip two a b e = e
 

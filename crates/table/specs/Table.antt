@@ -30,6 +30,10 @@ tableLength bytes = 8 + rowsOf bytes * actionsOf bytes
 abbrev pub frontTable : List ℕ → List ℕ
 frontTable bytes = take (tableLength bytes) bytes
 
+-- The largest table: 64 rows over 16 actions behind its header.
+abbrev pub largestTable : ℕ
+largestTable = 1032
+
 -- The rows, one behind the other: entry r * actions + a is the next row's number, or 255 for a trip.
 abbrev pub entriesOf : List ℕ → List ℕ
 entriesOf bytes = drop 8 bytes
@@ -82,12 +86,12 @@ pub record Accepted (bytes : List ℕ) : Type 0 where
   pub canonical : Canonical bytes
 
 -- Type 1 is satisfied where the sequence has not tripped, type 2 where it has.
-abbrev pub judged : ℕ → Bool → Bool
-judged type tripped = cond (eqb type 1) (not tripped) tripped
+abbrev pub verdictBy : ℕ → Bool → Bool
+verdictBy type tripped = cond (eqb type 1) (not tripped) tripped
 
 -- The verdict of a table after a sequence: whether it is satisfied. It is defined for all bytes that pass 10.
 abbrev pub verdict : List ℕ → List ℕ → Bool
-verdict bytes w = judged (typeOf bytes) (trips (rowStep bytes) 0 w)
+verdict bytes w = verdictBy (typeOf bytes) (trips (rowStep bytes) 0 w)
 
 -- Two tables give the same verdict after every finite sequence of actions, the empty one among them.
 pub record SameVerdicts (actions : ℕ) (bytes other : List ℕ) : Type 0 where

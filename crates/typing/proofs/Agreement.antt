@@ -11,7 +11,7 @@ use Rattle.policy.specs.declared.Typing.{Typing}
 use Rattle.policy.specs.declared.Typing.the-variants.{Typed, Untyped}
 use Rattle.policy.specs.Formula.{Formula as ActionFormula}
 use Rattle.policy.specs.Policy.{Policy as APolicy, now, holds-first, count, not-p, and-p, or-p, eventually, always, before-, before+, after-, after+, fulfilling, ignoring}
-use Rattle.policy.specs.Typing.{alikeTyped, typeNow, typeHolds, typeCount, typeNot, typeEventually, typeAlways, typeBefore-, typeBefore+, typeAfter-, typeAfter+, typeFulfilling, typeIgnoring, typeOf}
+use Rattle.policy.specs.Typing.{alikeTyped, typeNow, typeHolds, typeCount, typeNot, typeEventually, typeAlways, typeBefore-, typeBefore+, typeAfter-, typeAfter+, typeFulfilling, typeIgnoring, policyType}
 use Rattle.syntax.specs.Types.{typingOf, boundFits, found, typeNode}
 use Rattle.syntax.specs.Meaning.{Meaning, formula, policy, asPolicy, formulaAt, policyAt, meaningOf}
 use Rattle.typing.specs.Typed.{Agrees}
@@ -28,7 +28,7 @@ formula-agrees f Formula e = tt
 formula-agrees f (Policy m k) e = absurd (let z : _≡_ {A = ℕ} 0 1 = cc in omega arith)
 
 -- a policy of the typing that is found
-policy-agrees : (p : APolicy) (s : Typing) (t : NodeType) → typeOf p ≡ s → found s ≡ Fits t → Agrees t (policy p)
+policy-agrees : (p : APolicy) (s : Typing) (t : NodeType) → policyType p ≡ s → found s ≡ Fits t → Agrees t (policy p)
 policy-agrees p (Typed m k) t q e = by (boundFits k) e
   where
     by : (fit : Bool) → cond fit (Fits (Policy m k)) TooLong ≡ Fits t → Agrees t (policy p)
@@ -36,14 +36,14 @@ policy-agrees p (Typed m k) t q e = by (boundFits k) e
     by false e = absurd (let z : _≡_ {A = ℕ} 0 1 = cc in omega arith)
 policy-agrees p Untyped t q e = unfit e
 
-pub agrees-typed : (t : NodeType) (x : Meaning) → Agrees t x → {m : Mode} {k : Bound} → t ≡ Policy m k → typeOf (asPolicy x) ≡ typingOf t
+pub agrees-typed : (t : NodeType) (x : Meaning) → Agrees t x → {m : Mode} {k : Bound} → t ≡ Policy m k → policyType (asPolicy x) ≡ typingOf t
 agrees-typed Unused x a e = absurd a
 agrees-typed Formula x a e = absurd (let z : _≡_ {A = ℕ} 0 1 = cc in omega arith)
 agrees-typed (Policy m k) (formula f) a e = absurd a
 agrees-typed (Policy m k) (policy p) a e = a
 
 module _ (types : ℕ → NodeType) (before : List Meaning) (n : ℕ)
-    (means : (i : ℕ) → PolicyBefore types n i → typeOf (policyAt before i) ≡ typingOf (types i)) where
+    (means : (i : ℕ) → PolicyBefore types n i → policyType (policyAt before i) ≡ typingOf (types i)) where
   abbrev s : ℕ → Typing
   s i = typingOf (types i)
 

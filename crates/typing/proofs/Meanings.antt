@@ -12,7 +12,7 @@ use Rattle.trace.specs.declared.Mode.{Mode}
 use Rattle.policy.specs.declared.Bound.{Bound}
 use Rattle.policy.specs.declared.Typing.the-variants.{Typed}
 use Rattle.policy.specs.Formula.{always-false}
-use Rattle.policy.specs.Typing.{typeOf}
+use Rattle.policy.specs.Typing.{policyType}
 use Rattle.syntax.specs.Nodes.{nodeOf}
 use Rattle.syntax.specs.Types.{typeAt, typingOf}
 use Rattle.syntax.specs.Meaning.{Meaning, formula, meaningOf, meanings, nodePolicy, policyAt}
@@ -65,7 +65,7 @@ module _ {mode : Mode} (sheet : Sheet) (types : List TypedNode) (sound : SoundSh
           subst (Agrees (typeAt types n)) (sym (meaning-of sheet n))
           (agree-node (typeAt types) (meanings (sheet .nodes) n) n means (nodeOf sheet n) (node-parts n g t) (typeAt types n) (typed-fits sound n g t))
         where
-          means : (i : ℕ) → PolicyBefore (typeAt types) n i → typeOf (policyAt (meanings (sheet .nodes) n) i) ≡ typingOf (typeAt types i)
+          means : (i : ℕ) → PolicyBefore (typeAt types) n i → policyType (policyAt (meanings (sheet .nodes) n) i) ≡ typingOf (typeAt types i)
           means i p =
               rw (meaning-stays sheet n i (p .before)) (agrees-typed (typeAt types i) (nodeMeaning sheet i) (ih i (p .before) (typed-policy (p .is))) (p .is))
 
@@ -74,5 +74,5 @@ module _ {mode : Mode} (sheet : Sheet) (types : List TypedNode) (sound : SoundSh
     pub agrees : (typeAt types n ≡ Unused → ⊥) → Agrees (typeAt types n) (nodeMeaning sheet n)
     agrees t = agrees-below (suc n) n (lt-suc-self n) below t
 
-    pub policy-of : {m : Mode} {k : Bound} → typeAt types n ≡ Policy m k → typeOf (nodePolicy sheet n) ≡ Typed m k
+    pub policy-of : {m : Mode} {k : Bound} → typeAt types n ≡ Policy m k → policyType (nodePolicy sheet n) ≡ Typed m k
     policy-of e = agrees-typed (typeAt types n) (nodeMeaning sheet n) (agrees (typed-policy e)) e ∙ ap typingOf e

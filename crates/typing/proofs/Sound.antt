@@ -16,7 +16,7 @@ use Rattle.trace.specs.declared.Mode.{Mode}
 use Rattle.policy.specs.declared.Bound.{Bound}
 use Rattle.syntax.specs.Nodes.{nodeAt, nodeOf}
 use Rattle.syntax.specs.Formed.{PartsBelow, Formed}
-use Rattle.syntax.specs.Types.{typeAt, typeNode}
+use Rattle.syntax.specs.Types.{typeAt, typeFrom, typeNode}
 use Rattle.typing.specs.Typed.{Typings, mistyped, typed, noTypes, typeNext, unlessMistyped, typeNodes, faulty, sound, judgeLast, judgeTyped, judgeSheet, TypedAs, used, spare, SoundSheet}
 use Rattle.syntax.specs.declared.Fault.{Fault}
 use Rattle.syntax.specs.declared.ListedNode.{ListedNode}
@@ -27,8 +27,8 @@ use Rattle.syntax.specs.declared.TypedNode.{TypedNode}
 use Rattle.syntax.specs.declared.TypeFound.{TypeFound}
 use Rattle.syntax.specs.declared.TypeFound.the-variants.{Fits, Unfit, TooLong}
 use Rattle.reached.specs.Parts.{Used, usedSet}
+use Rattle.reached.proofs.NodeParts.{over-equal}
 use Rattle.reached.proofs.NodeSets.{part-below, used-exactly}
-use Rattle.typing.proofs.PartTypes.{type-of-parts}
 
 not-typed : {A : Type 0} {f : Fault} {before types : List TypedNode} → mistyped f before ≡ typed types → A
 not-typed e = absurd (let z : _≡_ {A = ℕ} 0 1 = cc in omega arith)
@@ -43,7 +43,7 @@ pub record TypesOf (used : ℕ) (nodes : List ListedNode) (n : ℕ) (types : Lis
   pub none : (i : ℕ) → bit used i ≡ false → typeAt types i ≡ Unused
 
 module _ (used : ℕ) (nodes : List ListedNode) where
-  -- node n has its type behind those before, or is not used and has none
+  -- node n has its type after those before, or is not used and has none
   record Typed (n : ℕ) (before types : List TypedNode) : Type 0 where
     in-use : bit used n ≡ true
     type : NodeType
@@ -97,7 +97,7 @@ module _ (used : ℕ) (nodes : List ListedNode) where
 
       each : (i : ℕ) → i < suc n → bit used i ≡ true → typeNode (nodeAt nodes i) (typeAt types) ≡ Fits (typeAt types i)
       each i h u =
-          type-of-parts (typeAt types) (typeAt before) (nodeAt nodes i) (λ k p. kept k (let g = part-below i k (nodeAt nodes i) (parts i h) p in λ e. omega arith))
+          ap typeFrom (over-equal (typeAt types) (typeAt before) (nodeAt nodes i) (λ k p. kept k (let g = part-below i k (nodeAt nodes i) (parts i h) p in λ e. omega arith)))
           ∙ by (ℕ-discrete i n)
         where
           by : Dec (i ≡ n) → typeNode (nodeAt nodes i) (typeAt before) ≡ Fits (typeAt types i)

@@ -9,7 +9,7 @@ use Rattle.base.specs.Sets.{bit}
 use Rattle.trace.specs.declared.Mode.{Mode}
 use Rattle.policy.specs.declared.Bound.{Bound}
 use Rattle.policy.specs.declared.Typing.the-variants.{Typed}
-use Rattle.policy.specs.Typing.{typeOf}
+use Rattle.policy.specs.Typing.{policyType}
 use Rattle.syntax.specs.Nodes.{nodeAt, nodeOf}
 use Rattle.syntax.specs.Formed.{Formed}
 use Rattle.syntax.specs.Types.{typeAt, typeNode}
@@ -27,7 +27,7 @@ use Rattle.syntax.specs.declared.Judged.the-variants.{Sound, Faulty}
 use Rattle.syntax.specs.declared.TypedNodes.{TypedNodes}
 use Rattle.reached.specs.Parts.{Used, usedSet}
 
--- The types of the first nodes, `Unused` behind them; or the first fault, with the types of the nodes before it.
+-- The types of the first nodes, `Unused` after them; or the first fault, with the types of the nodes before it.
 pub data Typings : Type 0 where
   mistyped : Fault → List TypedNode → Typings
   typed : List TypedNode → Typings
@@ -97,4 +97,4 @@ Agrees Unused x = ⊥
 Agrees Formula (formula f) = Unit {0}
 Agrees Formula (policy p) = ⊥
 Agrees (Policy m k) (formula f) = ⊥
-Agrees (Policy m k) (policy p) = typeOf p ≡ Typed m k
+Agrees (Policy m k) (policy p) = policyType p ≡ Typed m k

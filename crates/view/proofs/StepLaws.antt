@@ -12,7 +12,7 @@ use Rattle.view.specs.View.{View, Change, stays}
 use Rattle.view.specs.Moves.{deniesAt, NoneDenies}
 use Rattle.view.specs.Steps.{Call, Reply, done, permitted, denied, input, state, changes, isRefusal, Check, short-area, no-place, impossible, place-taken, place-empty, malformed, misnumbered}
 use Rattle.view.specs.Steps.{other-actions, board-empty, no-action, refusal, checksOf, Passes, AllPass, Carries, puts, takes, is-denied, is-permitted}
-use Rattle.view.specs.Steps.{Answers, refused, passed, carried, Step}
+use Rattle.view.specs.Steps.{Answers, refused, passed, carried, CallStep}
 
 -- a check's answer is a refusal, which changes nothing
 pub refusal-refuses : (check : Check) → isRefusal (refusal check) ≡ true
@@ -101,10 +101,10 @@ module _ {places : ℕ} {view : View} where
 
   module _ {Long CanBe : Type 0} {call : Call} where
     -- From one view, with the same inputs, there is one answer and one change.
-    pub step-determined : {r r' : Reply} {c c' : Change} → Step Long CanBe places view call r c → Step Long CanBe places view call r' c' → (r ≡ r') × (c ≡ c')
+    pub step-determined : {r r' : Reply} {c c' : Change} → CallStep Long CanBe places view call r c → CallStep Long CanBe places view call r' c' → (r ≡ r') × (c ≡ c')
     step-determined = answers-determined (λ r r' c c' d e. carries-determined d e)
 
-    module _ {reply : Reply} {change : Change} (s : Step Long CanBe places view call reply change) where
+    module _ {reply : Reply} {change : Change} (s : CallStep Long CanBe places view call reply change) where
       -- A call is carried out exactly when no refusal stated for it applies.
       pub step-exactly : (isRefusal reply ≡ false) ↔ AllPass (Passes Long CanBe places view) (checksOf call)
       step-exactly = (λ e. by (ends s) e, λ all. carried-answers (all-carried s all))
@@ -124,7 +124,7 @@ module _ {places : ℕ} {view : View} where
 
 -- What 14 and 25 ask is a parameter: where the same passes, the same is answered.
 pub step-guards : {Long Long' CanBe CanBe' : Type 0} → Long ↔ Long' → CanBe ↔ CanBe' → {places : ℕ} {view : View} {call : Call} {reply : Reply} {change : Change}
-    → Step Long CanBe places view call reply change → Step Long' CanBe' places view call reply change
+    → CallStep Long CanBe places view call reply change → CallStep Long' CanBe' places view call reply change
 step-guards {Long} {Long'} {CanBe} {CanBe'} long can {places} {view} = passed-alike same
   where
     same : (check : Check) → Passes Long CanBe places view check ↔ Passes Long' CanBe' places view check
@@ -141,5 +141,5 @@ step-guards {Long} {Long'} {CanBe} {CanBe'} long can {places} {view} = passed-al
 
 -- So both ask nothing where what they ask holds.
 pub step-past : {Long CanBe : Type 0} → Long → CanBe → {places : ℕ} {view : View} {call : Call} {reply : Reply} {change : Change}
-    → Step Long CanBe places view call reply change → Step (Unit {0}) (Unit {0}) places view call reply change
+    → CallStep Long CanBe places view call reply change → CallStep (Unit {0}) (Unit {0}) places view call reply change
 step-past long can = step-guards (λ p. tt, λ u. long) (λ p. tt, λ u. can)

@@ -11,7 +11,7 @@ use lib.ListN.{length}
 use borrow.Author.Tests.{eqb-true, eqb-false}
 use Rattle.base.proofs.Lists.{getD-blank}
 use Rattle.table.specs.Table.{WellFormed}
-use Rattle.places.specs.Layout.{placeCount, placeLength, Whole, storedAt, withBytes}
+use Rattle.places.specs.Layout.{placeCount, placeLength, LongEnough, storedAt, withBytes}
 use Rattle.places.specs.Places.{placeIn, caseIn, caseAt, taken, withCase, placesBy, emptyBoard}
 use Rattle.view.specs.View.{View, emptyView, held, viewOf, sets, moves, viewAfter, boardAfter}
 use Rattle.places.specs.declared.Case.{Case}
@@ -33,7 +33,7 @@ new-view area = same-view (viewOf emptyBoard area) emptyView none (λ i. ap (λ 
     none i = ap (λ (p : Place). p .case) (getD-blank placeCount i (placeIn Empty))
 
 -- One place set.
-module _ (board : Board) (area : List ℕ) (eight : length (board .places) ≡ placeCount) (whole : Whole area) (place : ℕ) (low : place < placeCount) where
+module _ (board : Board) (area : List ℕ) (eight : length (board .places) ≡ placeCount) (whole : LongEnough area) (place : ℕ) (low : place < placeCount) where
   set-view : (case : Case) (table : List ℕ) → length table ≤ placeLength → held case (storedAt (withBytes area place table) place) ≡ table
       → viewOf (withCase board place case) (withBytes area place table) ≡ viewAfter (sets place case table) (viewOf board area)
   set-view case table short here =

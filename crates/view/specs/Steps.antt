@@ -110,9 +110,14 @@ abbrev pub AllPass : (Check → Type 0) → List Check → Type 0
 AllPass Pass [] = Unit {0}
 AllPass Pass (check ∷ rest) = Pass check × AllPass Pass rest
 
+-- The first of these checks that does not pass is this one.
+pub data Stops (Pass : Check → Type 0) (check : Check) : List Check → Type 0 where
+  here : {rest : List Check} → (Pass check → ⊥) → Stops Pass check (check ∷ rest)
+  later : {first : Check} {rest : List Check} → Pass first → Stops Pass check rest → Stops Pass check (first ∷ rest)
+
 -- A call on a view with so many places: its answer, and what it changes.
-abbrev pub Step : (Long CanBe : Type 0) (places : ℕ) (view : View) → Call → Reply → Change → Type 0
-Step Long CanBe places view call reply change = Answers (Passes Long CanBe places view) (Carries places view call) reply change (checksOf call)
+abbrev pub CallStep : (Long CanBe : Type 0) (places : ℕ) (view : View) → Call → Reply → Change → Type 0
+CallStep Long CanBe places view call reply change = Answers (Passes Long CanBe places view) (Carries places view call) reply change (checksOf call)
 
 -- Whether an answer changes the board: a refusal and a denial do not.
 abbrev pub changes : Reply → Bool

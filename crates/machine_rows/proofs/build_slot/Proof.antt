@@ -6,8 +6,9 @@ use mathlib.Core.List.{List}
 use Prim.Native.Nat.{ℕ, _≤_}
 use native.Mathlib.Omega.{arith}
 use lib.ListN.{length}
-use Rattle.steppers.specs.Steppers.{stepBy, startBy, CanStep}
-use Rattle.machine_rows.specs.Builds.{BuildsTo}
+use Rattle.limits.specs.Lengths.{workLength}
+use Rattle.steppers.specs.Steppers.{CanStep}
+use Rattle.machine_rows.specs.Builds.{PlanTo}
 use Rattle.machine_rows.specs.declared.MachineBuilt.{MachineBuilt}
 use Rattle.machine_rows.specs.declared.MachineBuilt.the-variants.{Rows, TooManyValues, TooManyRows}
 use Rattle.machine_rows.proofs.Building.{not-over-more, rows-wider}
@@ -18,23 +19,23 @@ use Rattle.machine_rows.proofs.build_slot.Tie as tie
 -- what the small lists gave
 module _ (c : tie.After-build-small2) where
   abbrev start : tie.Start
-  start = c .before .before .before .before .before .before
+  start = c .before .before .before .before .before .before .before .before
 
   abbrev work : List ℕ
   work = c .build-small2 .last .1 .0
 
   small : (is : MachineBuilt) → c .build-small2 .result ≡ is
-      → BuildsTo (start .args .actions) (stepBy (start .args .actions) (start .args .work .now) (start .args .stepper))
-      (startBy (start .args .actions) (start .args .work .now) (start .args .stepper)) 64 (start .args .row-limit) (start .args .n) is (start .args .work .now) work
+      → let p = start .args .plan in
+      PlanTo (record { stepper = p .stepper; slot = p .slot; actions = p .actions; limits = record { values = 64; rows = p .limits .rows } }) is (start .args .work .now) work
   small is e = rw e at (c .build-small2 .ensures)
 
-  wider : 64 ≤ start .args .value-limit
+  wider : 64 ≤ start .args .plan .limits .values
   wider = omega (arith, c .before .before .before .if1 .left)
 
 returns-2 : tie.Need-returns-2
 returns-2 c =
     let b = c .before .before .before .before .before .before .before in
-    rows-wider (wider b) (small b (Rows _) (c .before .built .given .1))
+    rows-wider _ (wider b) (small b (Rows _) (c .before .built .given .1))
 
 returns-3 : tie.Need-returns-3
 returns-3 c =
@@ -55,15 +56,12 @@ build-large-requires c κs =
     let t = c .before .before in
     let z = start (tried t) in
     record {
-      steps = subst (λ (w : List ℕ). CanStep w (z .args .stepper)) (sym (same t)) (z .pre .steps);
-      bytes = subst (λ (w : List ℕ). 65536 ≤ length w) (sym (same t)) (z .pre .bytes);
+      steps = subst (λ (w : List ℕ). CanStep w (z .args .plan .stepper)) (sym (same t)) (z .pre .steps);
+      bytes = subst (λ (w : List ℕ). workLength ≤ length w) (sym (same t)) (z .pre .bytes);
       slot = z .pre .slot;
       actions-low = z .pre .actions-low;
       actions-high = z .pre .actions-high;
-      value-low = z .pre .value-low;
-      value-high = z .pre .value-high;
-      row-low = z .pre .row-low;
-      row-high = z .pre .row-high;
+      range = z .pre .range;
       room = omega (arith, z .pre .room, tried t .build-small2 .kept);
     }
 
@@ -71,8 +69,7 @@ returns-4 : tie.Need-returns-4
 returns-4 c =
     let l = c .before .before .before .before in
     let t = l .before .before .before in
-    let a = start (tried t) .args in
-    subst (λ (w : List ℕ). BuildsTo (a .actions) (stepBy (a .actions) w (a .stepper)) (startBy (a .actions) w (a .stepper)) (a .value-limit) (a .row-limit) (a .n) (l .build-large .result) w (l .build-large .last .1 .0))
+    subst (λ (w : List ℕ). PlanTo (start (tried t) .args .plan) (l .build-large .result) w (l .build-large .last .1 .0))
     (same t) (l .build-large .ensures)
 
 pub build-slot-spec : {M : Type 1} → statement M

@@ -29,7 +29,7 @@ loop-holds c =
     let e : 1 * 2 ^ from % 18446744073709551616 ≡ 2 ^ from = shl-exact 1 from 64 (omega arith) (omega arith) ∙ omega arith in
     (omega arith, rw (e, add-one from) refl)
 
--- one turn: n is the node behind the one that is looked at
+-- one turn: n is the node after the one that is looked at
 next : (parts : ℕ → ℕ) (set n : ℕ) → 0 < n → spread parts set n ≡ spread parts (cond (bit set (n - 1)) (bitOr set (parts (n - 1))) set) (n - 1)
 next parts set zero h = absurd (omega arith)
 next parts set (suc n) h = let e : suc n - 1 ≡ n = omega arith in rw e refl

@@ -14,15 +14,15 @@ use Rattle.rule_rows.proofs.build_all.Statement.{statement}
 use Rattle.rule_rows.proofs.build_all.Tie as tie
 
 abbrev Inv-loop : tie.InvT-loop
-Inv-loop count actions value-limit row-limit work₀ values₀ rules last₀ n₀ work values last n =
+Inv-loop count actions limits work₀ values₀ rules last₀ n₀ work values last n =
     (n ≤ count)
     × (length work ≡ length work₀)
     × (length values ≡ length values₀)
-    × BuiltTo rules actions value-limit row-limit n work
-    × LastRows rules actions value-limit row-limit n last work
+    × BuiltTo rules actions limits n work
+    × LastRows rules actions limits n last work
 
 abbrev μ-loop : tie.MeasureT-loop
-μ-loop count actions value-limit row-limit work₀ values₀ rules last₀ n₀ work values last n = count - n
+μ-loop count actions limits work₀ values₀ rules last₀ n₀ work values last n = count - n
 
 loop-holds : tie.Need-loop-holds Inv-loop μ-loop
 loop-holds c =
@@ -51,15 +51,15 @@ module _ (c : tie.After-build-next Inv-loop μ-loop) where
   start = turn .before .before .before .before
 
   abbrev work : List ℕ
-  work = c .build-next .last .1 .1 .1 .1 .1 .0
+  work = c .build-next .last .1 .1 .1 .1 .0
 
   work-kept : length work ≡ length (start .args .work .now)
   work-kept = omega (arith, c .build-next .kept, turn .before .loop .inv .1)
 
-  values-kept : length (c .build-next .last .1 .1 .1 .1 .1 .1 .0) ≡ length (start .args .values .now)
+  values-kept : length (c .build-next .last .1 .1 .1 .1 .1 .0) ≡ length (start .args .values .now)
   values-kept = omega (arith, c .build-next .kept, turn .before .loop .inv .2)
 
-  next : (is : MachineBuilt) → c .build-next .result ≡ is → let a = start .args in Advances (a .t1) (a .count) (a .actions) (a .value-limit) (a .row-limit) (turn .before .loop .n) is work
+  next : (is : MachineBuilt) → c .build-next .result ≡ is → let a = start .args in Advances (a .t1) (a .count) (a .actions) (a .limits) (turn .before .loop .n) is work
   next is e = advances (start .pre) (turn .loop-test .taken) (turn .before .loop .inv .3) _ refl is work (rw e at (c .build-next .ensures))
 
 abbrev told : tie.After-enum-told Inv-loop μ-loop → tie.After-build-next Inv-loop μ-loop
@@ -112,8 +112,8 @@ returns-3 c =
     let v = c .before .loop in
     let a = c .before .before .before .before .args in
     let e : v .n ≡ a .count = omega (arith, v .inv .0, c .loop-test .left) in (
-      subst (λ (n : ℕ). BuiltTo (a .t1) (a .actions) (a .value-limit) (a .row-limit) n (v .work)) e (v .inv .3),
-      subst (λ (n : ℕ). LastRows (a .t1) (a .actions) (a .value-limit) (a .row-limit) n (v .last) (v .work)) e (v .inv .4),
+      subst (λ (n : ℕ). BuiltTo (a .t1) (a .actions) (a .limits) n (v .work)) e (v .inv .3),
+      subst (λ (n : ℕ). LastRows (a .t1) (a .actions) (a .limits) n (v .last) (v .work)) e (v .inv .4),
     )
 
 pub build-all-spec : {M : Type 1} → statement M

@@ -1,4 +1,4 @@
--- `rule_rows::build_next` meets its contract: a rule is built into its slot, and a formula is passed over.
+-- `rule_rows::build_next` meets its contract: a rule is built into its slot, and where there is none nothing is done.
 -- Assumes nothing.
 use mathlib.Core.Path.{refl}
 use borrow.Author.Needs.{needs}

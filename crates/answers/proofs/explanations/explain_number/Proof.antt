@@ -1,11 +1,9 @@
 -- `answers::explanations::explain_number` meets its contract.
 -- Assumes nothing.
-use mathlib.Core.Path.{_∙_, ap₂}
 use Prim.Native.Nat.{ℕ}
 use borrow.Author.Needs.{needs}
 use Rattle.explaining.specs.Calling.{answerOf}
 use Rattle.explaining.specs.declared.Explained.{Explained}
-use Rattle.answers.specs.Numbers.{pack}
 use Rattle.answers.specs.Explanations.{packedExplanation}
 use Rattle.answers.proofs.ByCase.{number-case}
 use Rattle.answers.proofs.explanations.explain_number.Statement.{statement}
@@ -18,15 +16,7 @@ returns-2 : tie.Need-returns-2
 returns-2 c = number-case numbered _ _ _ (c .before .before .answer .given .1) (c .pack .ensures)
 
 returns-4 : tie.Need-returns-4
-returns-4 c =
-    number-case numbered _ _ _ (c .before .before .before .before .answer2 .given .1)
-    (c .pack2 .ensures ∙ ap₂ (λ (number spot : ℕ). pack number spot 0 0) (c .before .before .fault-number .ensures) (c .before .fault-spot .ensures))
-
-returns-5 : tie.Need-returns-5
-returns-5 c = number-case numbered _ _ _ (c .before .before .answer3 .given .1) (c .pack3 .ensures)
-
-returns-6 : tie.Need-returns-6
-returns-6 c = number-case numbered _ _ _ (c .before .before .answer4 .given .1) (c .pack4 .ensures)
+returns-4 c = number-case numbered _ _ _ (c .before .before .answer2 .given .1) (c .refused-number .ensures)
 
 pub explain-number-spec : {M : Type 1} → statement M
 explain-number-spec =
@@ -38,19 +28,11 @@ explain-number-spec =
     (λ c. search needs)
     (λ c. search needs)
     (λ c κs. search needs)
-    (λ c κs. search needs)
-    (λ c κs. search needs)
-    (λ c. search needs)
-    (λ c κs. search needs)
-    (λ c. search needs)
-    (λ c κs. search needs)
     (λ c. search needs)
     (λ c. search needs)
     (λ c. search needs)
     returns-2
     (λ c. search needs)
     returns-4
-    returns-5
-    returns-6
     (λ c. search needs)
     (λ c. search needs))

@@ -1,8 +1,8 @@
 -- `answers::texts::text_number` meets its contract.
 -- Assumes nothing.
 use mathlib.Core.Path.{sym, _∙_, ap}
-use Rattle.text_reader.specs.Calling.{answerOf}
-use Rattle.text_reader.specs.declared.TextRead.{TextRead}
+use Rattle.parser.specs.Calling.{answerOf}
+use Rattle.parser.specs.declared.TextRead.{TextRead}
 use Rattle.answers.specs.Texts.{packedText}
 use borrow.Author.Needs.{needs}
 use Rattle.answers.proofs.texts.text_number.Statement.{statement}

@@ -3,11 +3,10 @@
 use mathlib.Core.Path.{_≡_, sym, _∙_, subst}
 use native.Mathlib.Omega.{arith}
 use Rattle.trace.proofs.Laws.{not-both}
-use Rattle.view.specs.Steps.{put-on}
-use Rattle.board.specs.Asking.{here, later}
-use Rattle.board.proofs.Calling.{call-refused}
-use Rattle.board.specs.Targets.{Looks}
-use Rattle.board.specs.declared.calls.Target.{Target}
+use Rattle.view.specs.Steps.{put-on, here, later}
+use Rattle.view.proofs.Calling.{call-refused}
+use Rattle.board_checks.specs.Targets.{Looks}
+use Rattle.board_checks.specs.declared.targets.Target.{Target}
 use borrow.Author.Needs.{needs}
 use Rattle.board.proofs.calls.put_on.Statement.{statement}
 use Rattle.board.proofs.calls.put_on.Tie as tie

@@ -9,13 +9,13 @@ use Rattle.places.specs.Layout.{placeCount}
 use Rattle.places.specs.Places.{withCase}
 use Rattle.view.specs.View.{viewOf}
 use Rattle.view.specs.Moves.{firstCase}
-use Rattle.view.specs.Steps.{Call, put-on, Check, malformed, misnumbered, other-actions, refusal, SameActions, puts}
-use Rattle.view.specs.Calls.{Calls}
-use Rattle.board.specs.Targets.{EmptyTarget}
+use Rattle.view.specs.Steps.{Call, put-on, Check, malformed, misnumbered, other-actions, refusal, SameActions, Stops, here, later, puts}
+use Rattle.view.specs.Calls.{Calls, PassesOn}
+use Rattle.board_checks.specs.Targets.{EmptyTarget}
 use Rattle.places.specs.declared.Board.{Board}
 use Rattle.places.specs.declared.Case.{Case}
-use Rattle.board.specs.Asking.{PassesOn, Stops, here, later}
-use Rattle.board.proofs.Calling.{call-refused, call-carried, loaded-type, loaded-actions, loaded-accepted, loaded-fits, load-malformed, load-misnumbered}
+use Rattle.view.proofs.Calling.{call-refused, call-carried}
+use Rattle.board.proofs.Loaded.{loaded-type, loaded-actions, loaded-accepted, loaded-fits, load-malformed, load-misnumbered}
 use Rattle.scan.proofs.Surveying.{same-actions, other-actions as other-actions-on}
 use borrow.Author.Needs.{needs}
 use Rattle.board.proofs.calls.put_table.Statement.{statement}

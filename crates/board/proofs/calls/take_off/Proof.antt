@@ -5,13 +5,12 @@ use Rattle.trace.proofs.Laws.{not-both}
 use mathlib.Core.List.{List, []}
 use Prim.Native.Nat.{ℕ}
 use native.Mathlib.Omega.{arith}
-use Rattle.view.specs.Steps.{take-off, takes}
-use Rattle.board.specs.Asking.{here, later}
-use Rattle.board.proofs.Calling.{call-refused, call-carried}
-use Rattle.board.specs.Targets.{TakenTarget, Looks}
+use Rattle.view.specs.Steps.{take-off, here, later, takes}
+use Rattle.view.proofs.Calling.{call-refused, call-carried}
+use Rattle.board_checks.specs.Targets.{TakenTarget, Looks}
 use Rattle.places.specs.declared.Board.{Board}
 use Rattle.places.specs.declared.Case.the-variants.{Empty}
-use Rattle.board.specs.declared.calls.Target.{Target}
+use Rattle.board_checks.specs.declared.targets.Target.{Target}
 use borrow.Author.Needs.{needs}
 use Rattle.board.proofs.calls.take_off.Statement.{statement}
 use Rattle.board.proofs.calls.take_off.Tie as tie

@@ -7,7 +7,7 @@ use borrow.Author.Needs.{needs}
 use Rattle.typing.specs.Typed.{sound, SoundSheet}
 use Rattle.syntax.specs.declared.Sheet.{Sheet}
 use Rattle.syntax.specs.declared.TypedNode.{TypedNode}
-use Rattle.sheet.specs.Judge.{judge}
+use Rattle.sheet_judge.specs.Judge.{judge}
 use Rattle.rules.specs.declared.RuleAt.{RuleAt}
 use Rattle.node_rules.specs.Lowering.{rulesOf}
 use Rattle.node_rules.specs.SheetRules.{sheetRules}
@@ -67,9 +67,9 @@ build-all-requires c κs =
     let f = lowered a in
     let z = start f in
     subst
-    (λ (rules : List RuleAt). AllBuildable rules (sheet f .count) (sheet f .actions) (z .args .value-limit) (z .args .row-limit) (z .args .work .now) (z .args .values .now))
+    (λ (rules : List RuleAt). AllBuildable rules (sheet f .count) (sheet f .actions) (z .args .limits) (z .args .work .now) (z .args .values .now))
     (sym (rules-are a))
-    (buildable (right f) (z .args .value-limit) (z .args .row-limit) (z .args .work .now) (z .args .values .now) (z .pre))
+    (buildable (right f) (z .args .limits) (z .args .work .now) (z .args .values .now) (z .pre))
 
 -- the rules are built
 module _ (c : tie.After-build-all) where
@@ -77,12 +77,12 @@ module _ (c : tie.After-build-all) where
   passes = lowered (c .before .before .before)
 
   abbrev work : List ℕ
-  work = c .build-all .last .1 .1 .1 .1 .1 .0
+  work = c .build-all .last .1 .1 .1 .1 .0
 
   -- what is answered of these rules
   abbrev Finishes : List RuleAt → AllBuilt → Type 0
   Finishes rules b =
-      FinishesTo rules (sheet passes .count) (sheet passes .actions) (start passes .args .value-limit) (start passes .args .row-limit) b work
+      FinishesTo rules (sheet passes .count) (sheet passes .actions) (start passes .args .limits) b work
 
   known : {b : AllBuilt} → c .build-all .result ≡ b → Finishes (sheetRules (sheet passes) (types passes)) b
   known e =
@@ -93,20 +93,20 @@ returns-2 : tie.Need-returns-2
 returns-2 c =
     let a = c .before .before .before .before .before .before .before in
     let f = passes a in
-    sheet-values (start f .args .sheet .now) _ _ (judged f) (right f) (start f .pre .row-high) (work a) _ (known a (c .before .n .given .1))
+    sheet-values (start f .args .sheet .now) _ (judged f) (right f) (start f .pre .range .row .high) (work a) _ (known a (c .before .n .given .1))
 
 returns-3 : tie.Need-returns-3
 returns-3 c =
     let a = c .before .before .before .before .before .before .before in
     let f = passes a in
-    sheet-rows (start f .args .sheet .now) _ _ (judged f) (right f) (start f .pre .row-high) (work a) _ (known a (c .before .n2 .given .1))
+    sheet-rows (start f .args .sheet .now) _ (judged f) (right f) (start f .pre .range .row .high) (work a) _ (known a (c .before .n2 .given .1))
 
 returns-4 : tie.Need-returns-4
 returns-4 c =
     let a = c .before .before .before .before .before .before .before in
     let f = passes a in
     let k = known a (c .before .rows .given .1) in
-    sheet-built (start f .args .sheet .now) _ _ (judged f) (right f) (start f .pre .row-high) (work a) _ (k .0) (k .1)
+    sheet-built (start f .args .sheet .now) _ (judged f) (right f) (start f .pre .range .row .high) (work a) _ (k .0) (k .1)
 
 pub build-sheet-spec : {M : Type 1} → statement M
 build-sheet-spec =

@@ -2,6 +2,7 @@
 -- Assumes nothing.
 use mathlib.Core.Path.{sym}
 use lib.Seq.{length-take-le}
+use Rattle.limits.specs.Lengths.{workLength, numbersLength}
 use Rattle.making.specs.Making.{Areas, short}
 use Rattle.making.proofs.LentAreas.{into}
 use borrow.Author.Needs.{needs}
@@ -20,18 +21,18 @@ slice-relend-prefix-compile-in : tie.Need-slice-relend-prefix-compile-in
 slice-relend-prefix-compile-in c = areas (c .before) .bytes
 
 slice-aggregate-compile-in : tie.Need-slice-aggregate-compile-in
-slice-aggregate-compile-in c = let t = c .before .before in sym (length-take-le 65536 (start t .args .work .now) (areas t .bytes))
+slice-aggregate-compile-in c = let t = c .before .before in sym (length-take-le workLength (start t .args .work .now) (areas t .bytes))
 
 slice-relend-prefix-compile-in-2 : tie.Need-slice-relend-prefix-compile-in-2
 slice-relend-prefix-compile-in-2 c = areas (c .before .before) .numbers
 
 slice-aggregate-compile-in-2 : tie.Need-slice-aggregate-compile-in-2
-slice-aggregate-compile-in-2 c = let t = c .before .before .before in sym (length-take-le 1024 (start t .args .values .now) (areas t .numbers))
+slice-aggregate-compile-in-2 c = let t = c .before .before .before in sym (length-take-le numbersLength (start t .args .values .now) (areas t .numbers))
 
 compile-in-requires : tie.Need-compile-in-requires
 compile-in-requires c κs =
     let t = c .before .before .before in
-    (areas t .output, (length-take-le 65536 (start t .args .work .now) (areas t .bytes), length-take-le 1024 (start t .args .values .now) (areas t .numbers)))
+    (areas t .output, (length-take-le workLength (start t .args .work .now) (areas t .bytes), length-take-le numbersLength (start t .args .values .now) (areas t .numbers)))
 
 returns : tie.Need-returns
 returns c =

@@ -5,6 +5,8 @@ use mathlib.Core.List.{List, []}
 use Prim.Native.Nat.{ℕ, _≤_}
 use native.Mathlib.Omega.{arith}
 use lib.ListN.{length}
+use Rattle.limits.specs.Lengths.{workLength}
+use Rattle.limits.specs.declared.Limits.{Limits}
 use Rattle.table.specs.Answer.{Answer}
 use Rattle.making.specs.Making.{WritesTo}
 use Rattle.joining.specs.Tables.{restAt, CountFits}
@@ -21,8 +23,8 @@ use Rattle.joining.proofs.call.join_with.Statement.{statement}
 use Rattle.joining.proofs.call.join_with.Tie as tie
 
 -- a refusal writes nothing
-refuses : {count : ℕ} {input : List ℕ} {valueLimit rowLimit : ℕ} {answer : Answer} (out : List ℕ) → Joins count input valueLimit rowLimit answer []
-    → WritesTo (Joins count input valueLimit rowLimit) answer out out
+refuses : {count : ℕ} {input : List ℕ} {limits : Limits} {answer : Answer} (out : List ℕ) → Joins count input limits answer []
+    → WritesTo (Joins count input limits) answer out out
 refuses out j = record { written = []; gives = j; front = refl }
 
 returns : tie.Need-returns
@@ -113,7 +115,7 @@ module _ (c : tie.After-actions) where
   few : CountFits count
   few = counted (checks out)
 
-  room : 65536 ≤ length (work out)
+  room : workLength ≤ length (work out)
   room = let k = out .lay-out .kept in omega (arith, start (checks out) .pre .to-work .bytes)
 
 build-joined-requires : tie.Need-build-joined-requires
@@ -128,10 +130,7 @@ build-joined-requires c κs =
       record {
         to-work =
             record {
-              value-low = lent .to-work .value-low;
-              value-high = lent .to-work .value-high;
-              row-low = lent .to-work .row-low;
-              row-high = lent .to-work .row-high;
+              range = lent .to-work .range;
               bytes = room a;
               numbers = lent .to-work .numbers;
             };

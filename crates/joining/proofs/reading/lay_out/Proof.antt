@@ -7,6 +7,7 @@ use Prim.Native.Nat.{ℕ, _+_, _*_, _-_, _≤_, _<_}
 use native.Mathlib.Omega.{arith}
 use lib.ListN.{length, take, drop, replicate, length-drop}
 use borrow.Rule.Slice.PartMut.{midOf, putMid, mid-len}
+use Rattle.limits.specs.Lengths.{workLength}
 use Rattle.base.proofs.Lists.{tail}
 use Rattle.table.specs.Table.{actionsOf, rowsOf, tableLength, frontTable}
 use Rattle.table.proofs.Formed.{front-actions}
@@ -130,7 +131,7 @@ module _ (c : tie.After-word3 Inv-loop μ-loop) where
   few : i this < 8
   few = let p = start this .pre in omega (arith, left this, p .2)
 
-  room : 65536 ≤ length (this .before .loop .work)
+  room : workLength ≤ length (this .before .loop .work)
   room = let p = start this .pre in omega (arith, this .before .loop .inv .1, p .3)
 
   front : FitFront (rest this) (8 + c .word3 .result * actions)

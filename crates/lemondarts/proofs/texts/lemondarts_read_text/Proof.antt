@@ -1,6 +1,5 @@
 -- `lemondarts::texts::lemondarts_read_text` meets its contract.
 -- Assumes nothing.
-use native.Mathlib.Omega.{arith}
 use borrow.Author.Needs.{needs}
 use Rattle.lemondarts.proofs.texts.lemondarts_read_text.Statement.{statement}
 use Rattle.lemondarts.proofs.texts.lemondarts_read_text.Tie as tie
@@ -8,12 +7,10 @@ use Rattle.lemondarts.proofs.texts.lemondarts_read_text.Tie as tie
 returns : tie.Need-returns
 returns c =
     let r = c .before .before .before in
-    let known = r .before .before .before in
     record {
       answer = _;
       reads = r .read-text .ensures .0;
       number = c .text-number .ensures;
-      narrow = λ a h. omega (arith, known .shared-slice-known2 .given a);
     }
 
 pub lemondarts-read-text-spec : {M : Type 1} → statement M

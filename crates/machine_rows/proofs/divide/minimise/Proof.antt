@@ -47,7 +47,7 @@ quotient-requires c κs =
     let z = entry (refined r) in
     divisible (length (z .args .classes .now)) (z .args .actions) (z .args .next .now) (z .args .limit) (r .refined .given .0 .0) (classes (refined r))
     (firsts (refined r)) (z .pre .acting) (z .pre .some) (z .pre .machine) (counted r .1) (counted r .0) _
-    (omega (arith, refined r .refine .kept, refined r .before .before .before .before .room-for-firsts .ensures, z .pre .small)) (omega (arith, f .fill .kept, z .pre .room))
+    (omega (arith, refined r .refine .kept, refined r .before .before .before .before .room-for-firsts .ensures, z .pre .limited .high)) (omega (arith, f .fill .kept, z .pre .room))
 
 returns-2 : tie.Need-returns-2
 returns-2 c =
@@ -56,7 +56,7 @@ returns-2 c =
     let r = f .before .before .before in
     let z = entry (refined r) in
     divided (length (z .args .classes .now)) (z .args .actions) (z .args .next .now) (z .args .limit) (r .refined .given .0 .0) (classes (refined r))
-    (firsts (refined r)) (z .pre .acting) (z .pre .some) (z .pre .machine) (counted r .1) (counted r .0) (z .pre .numbered) (z .pre .small)
+    (firsts (refined r)) (z .pre .acting) (z .pre .some) (z .pre .machine) (counted r .1) (counted r .0) (z .pre .numbered) (z .pre .limited .high)
     (omega (arith, refined r .refine .kept)) (length (z .args .slot .now)) (f .fill .last .0) (q .quotient .last .1 .1 .1 .1 .1 .0) (f .fill .ensures) (q .quotient .ensures)
 
 pub minimise-spec : {M : Type 1} → statement M

@@ -8,12 +8,12 @@ use native.Mathlib.Omega.{arith}
 use lib.ListN.{length, set, length-set}
 use borrow.Author.Needs.{needs}
 use Rattle.base.proofs.Filled.{filled-skip}
-use Rattle.syntax.specs.Nodes.{nodeOf}
+use Rattle.syntax.specs.Nodes.{nodeOf, sheetOf}
 use Rattle.syntax.specs.Types.{typeAt}
 use Rattle.syntax.specs.declared.NodeType.{NodeType}
 use Rattle.syntax.specs.declared.Sheet.{Sheet}
 use Rattle.syntax.specs.declared.TypedNode.{TypedNode}
-use Rattle.node_rules.specs.FormulaSets.{satisfying, ofFormula, sheetOf, firstSets, setFrom}
+use Rattle.node_rules.specs.FormulaSets.{satisfying, ofFormula, firstSets, setFrom}
 use Rattle.node_rules.specs.Lowering.{setAt}
 use Rattle.node_rules.proofs.FormulaSets.{set-right}
 use Rattle.node_rules.proofs.sets.formula_sets.Statement.{statement}

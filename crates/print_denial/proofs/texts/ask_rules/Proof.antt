@@ -7,10 +7,10 @@ use Rattle.print_denial.proofs.texts.ask_rules.Statement.{statement}
 use Rattle.print_denial.proofs.texts.ask_rules.Tie as tie
 
 abbrev Inv-loop : tie.InvT-loop
-Inv-loop file start actions list found₀ from₀ rule₀ found from rule = (rule ≤ 9) × (from ≤ length file)
+Inv-loop file start actions list names found₀ from₀ rule₀ found from rule = (rule ≤ 9) × (from ≤ length file)
 
 abbrev μ-loop : tie.MeasureT-loop
-μ-loop file start actions list found₀ from₀ rule₀ found from rule = 9 - rule
+μ-loop file start actions list names found₀ from₀ rule₀ found from rule = 9 - rule
 
 pub ask-rules-spec : {M : Type 1} → statement M
 ask-rules-spec =

@@ -8,11 +8,11 @@ use Rattle.print_rule.proofs.file.answer_rules.Statement.{statement}
 use Rattle.print_rule.proofs.file.answer_rules.Tie as tie
 
 abbrev Inv-loop : tie.InvT-loop
-Inv-loop file start actions tables₀ watched₀ from₀ end₀ rule₀ tables watched from end rule =
+Inv-loop file start actions list tables₀ watched₀ from₀ end₀ rule₀ tables watched from end rule =
     (rule ≤ 9) × (end + 1032 ≤ 1032 * rule) × (from ≤ length file) × (8256 ≡ length tables)
 
 abbrev μ-loop : tie.MeasureT-loop
-μ-loop file start actions tables₀ watched₀ from₀ end₀ rule₀ tables watched from end rule = 9 - rule
+μ-loop file start actions list tables₀ watched₀ from₀ end₀ rule₀ tables watched from end rule = 9 - rule
 
 pub answer-rules-spec : {M : Type 1} → statement M
 answer-rules-spec =

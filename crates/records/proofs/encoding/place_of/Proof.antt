@@ -8,12 +8,12 @@ use lib.Dec.{eqb}
 use borrow.Author.Needs.{needs}
 use borrow.Author.Tests.{ne-eqb}
 use Rattle.places.specs.declared.Case.the-variants.{Enforced}
-use Rattle.records.specs.Record.{placeOf}
+use Rattle.records.specs.Record.{recordedPlace}
 use Rattle.records.proofs.encoding.place_of.Statement.{statement}
 use Rattle.records.proofs.encoding.place_of.Tie as tie
 
 -- a case byte above 3 is none of the four
-unknown : (case row : ℕ) → 4 ≤ case → record { case = Enforced 255 } ≡ placeOf case row
+unknown : (case row : ℕ) → 4 ≤ case → record { case = Enforced 255 } ≡ recordedPlace case row
 unknown case row h = rw (other 0 (omega arith), other 1 (omega arith), other 2 (omega arith), other 3 (omega arith))
   where
     other : (k : ℕ) → k ≤ 3 → eqb case k ≡ false

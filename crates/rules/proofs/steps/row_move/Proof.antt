@@ -1,4 +1,4 @@
--- `rules::steps::row_move` meets its contract: a row that a byte names has its entries in the slot or behind it.
+-- `rules::steps::row_move` meets its contract: a row that a byte names has its entries in the slot or after it.
 -- Assumes nothing.
 use Rattle.rules.proofs.Reading.{part-below, index-fits}
 use Rattle.rules.proofs.steps.row_move.Statement.{statement}

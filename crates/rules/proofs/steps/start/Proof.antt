@@ -10,7 +10,7 @@ use borrow.Author.Tests.{lt-leb}
 use native.Mathlib.Omega.{arith}
 use Rattle.rules.specs.declared.NodeRule.{NodeRule}
 use Rattle.rules.proofs.NodeRule.{the-type}
-use Rattle.rules.specs.declared.NodeRule.the-variants.{Opening, Counting, Same, Both, Either, Copied, Until, Then, Timed, Filtered}
+use Rattle.rules.specs.declared.NodeRule.the-variants.{Opening, Count, Same, Both, Either, Copied, Before, After, Fulfilling, Ignoring}
 use Rattle.rules.specs.Steps.{codeStart}
 use Rattle.rules.proofs.steps.start.Statement.{statement}
 use Rattle.rules.proofs.steps.start.Tie as tie
@@ -18,23 +18,23 @@ use Rattle.rules.proofs.steps.start.Reads as reads
 use Rattle.rules.proofs.steps.start.Lts as lts
 
 module _ (actions : ℕ) (work : List ℕ) where
-  over : (rule : NodeRule) (k a b c : ℕ) → rule ≡ Timed k a b c → k ≡ 0 → 131072 ≡ codeStart actions work rule
+  over : (rule : NodeRule) (k a b c : ℕ) → rule ≡ Fulfilling k a b c → k ≡ 0 → 131072 ≡ codeStart actions work rule
   over rule k a b c e h = rw (e, h)
 
-  waits : (rule : NodeRule) (k a b c : ℕ) → rule ≡ Timed k a b c → (k ≡ 0 → ⊥) → 0 ≡ codeStart actions work rule
+  waits : (rule : NodeRule) (k a b c : ℕ) → rule ≡ Fulfilling k a b c → (k ≡ 0 → ⊥) → 0 ≡ codeStart actions work rule
   waits rule k a b c e h = rw (e, lt-leb k 0 (omega arith))
 
   others : (rule : NodeRule) → OneOf (0 ∷ 1 ∷ 2 ∷ 3 ∷ 4 ∷ 6 ∷ 7 ∷ 9 ∷ []) (tagOf the-type rule) → 0 ≡ codeStart actions work rule
   others (Opening s) h = refl
-  others (Counting k) h = refl
+  others (Count k) h = refl
   others (Same a) h = refl
   others (Both a b) h = refl
   others (Either a b) h = refl
   others (Copied a) h = absurd (miss (0 ∷ 1 ∷ 2 ∷ 3 ∷ 4 ∷ 6 ∷ 7 ∷ 9 ∷ []) 5 tt h)
-  others (Until a b) h = refl
-  others (Then a b) h = refl
-  others (Timed k a b c) h = absurd (miss (0 ∷ 1 ∷ 2 ∷ 3 ∷ 4 ∷ 6 ∷ 7 ∷ 9 ∷ []) 8 tt h)
-  others (Filtered s a) h = refl
+  others (Before a b) h = refl
+  others (After a b) h = refl
+  others (Fulfilling k a b c) h = absurd (miss (0 ∷ 1 ∷ 2 ∷ 3 ∷ 4 ∷ 6 ∷ 7 ∷ 9 ∷ []) 8 tt h)
+  others (Ignoring s a) h = refl
 
 enum-told : tie.Need-enum-told
 enum-told c = search needs

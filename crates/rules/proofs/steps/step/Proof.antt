@@ -46,26 +46,26 @@ move-copies-requires c κs =
     let given = known (c .before .rule6 .given .1) (start .pre .0) in
     (given .room, given .parts, start .pre .1, start .pre .2)
 
-until-step-requires : tie.Need-until-step-requires
-until-step-requires c κs =
+before-step-requires : tie.Need-before-step-requires
+before-step-requires c κs =
     let start = c .before .before .before .before in
     let given = known (c .before .rule7 .given .1) (start .pre .0) in
     (given, start .pre .1, start .pre .2)
 
-then-step-requires : tie.Need-then-step-requires
-then-step-requires c κs =
+after-step-requires : tie.Need-after-step-requires
+after-step-requires c κs =
     let start = c .before .before .before .before in
     let given = known (c .before .rule8 .given .1) (start .pre .0) in
     (given, start .pre .1, start .pre .2)
 
-timed-step-requires : tie.Need-timed-step-requires
-timed-step-requires c κs =
+fulfilling-step-requires : tie.Need-fulfilling-step-requires
+fulfilling-step-requires c κs =
     let start = c .before .before .before .before in
     let given = known (c .before .rule9 .given .1) (start .pre .0) in
     (given, start .pre .1, start .pre .2)
 
-filtered-step-requires : tie.Need-filtered-step-requires
-filtered-step-requires c κs =
+ignoring-step-requires : tie.Need-ignoring-step-requires
+ignoring-step-requires c κs =
     let start = c .before .before .before .before in
     let given = known (c .before .rule10 .given .1) (start .pre .0) in
     (given, start .pre .1, start .pre .2)
@@ -78,7 +78,7 @@ returns c =
 returns-2 : tie.Need-returns-2
 returns-2 c =
     let a = c .before .before .before .before .before .args in
-    stepped (a .actions) (a .work .now) (a .value) (a .action) (c .before .before .rule2 .given .1) (c .counting-step .ensures)
+    stepped (a .actions) (a .work .now) (a .value) (a .action) (c .before .before .rule2 .given .1) (c .count-step .ensures)
 
 returns-3 : tie.Need-returns-3
 returns-3 c =
@@ -105,22 +105,22 @@ returns-6 c =
 returns-7 : tie.Need-returns-7
 returns-7 c =
     let a = c .before .before .before .before .before .args in
-    stepped (a .actions) (a .work .now) (a .value) (a .action) (c .before .before .rule7 .given .1) (c .until-step .ensures)
+    stepped (a .actions) (a .work .now) (a .value) (a .action) (c .before .before .rule7 .given .1) (c .before-step .ensures)
 
 returns-8 : tie.Need-returns-8
 returns-8 c =
     let a = c .before .before .before .before .before .args in
-    stepped (a .actions) (a .work .now) (a .value) (a .action) (c .before .before .rule8 .given .1) (c .then-step .ensures)
+    stepped (a .actions) (a .work .now) (a .value) (a .action) (c .before .before .rule8 .given .1) (c .after-step .ensures)
 
 returns-9 : tie.Need-returns-9
 returns-9 c =
     let a = c .before .before .before .before .before .args in
-    stepped (a .actions) (a .work .now) (a .value) (a .action) (c .before .before .rule9 .given .1) (c .timed-step .ensures)
+    stepped (a .actions) (a .work .now) (a .value) (a .action) (c .before .before .rule9 .given .1) (c .fulfilling-step .ensures)
 
 returns-10 : tie.Need-returns-10
 returns-10 c =
     let a = c .before .before .before .before .before .args in
-    stepped (a .actions) (a .work .now) (a .value) (a .action) (c .before .before .rule10 .given .1) (c .filtered-step .ensures)
+    stepped (a .actions) (a .work .now) (a .value) (a .action) (c .before .before .rule10 .given .1) (c .ignoring-step .ensures)
 
 pub step-spec : {M : Type 1} → statement M
 step-spec =
@@ -139,13 +139,13 @@ step-spec =
     (λ c. search needs)
     move-copies-requires
     (λ c. search needs)
-    until-step-requires
+    before-step-requires
     (λ c. search needs)
-    then-step-requires
+    after-step-requires
     (λ c. search needs)
-    timed-step-requires
+    fulfilling-step-requires
     (λ c. search needs)
-    filtered-step-requires
+    ignoring-step-requires
     returns
     returns-2
     returns-3

@@ -12,7 +12,8 @@ use Rattle.places.specs.Layout.{placeCount, storedAt}
 use Rattle.places.specs.Places.{placeIn, caseAt, taken}
 use Rattle.view.specs.View.{View, viewIn, viewOf}
 use Rattle.scan.specs.Survey.{ReadsPlace}
-use Rattle.scan.specs.Scans.{MovesBy, Scans}
+use Rattle.place_steps.specs.Moving.{MovesBy}
+use Rattle.scan.specs.Scans.{Scans}
 use Rattle.places.specs.declared.Place.{Place}
 use Rattle.places.specs.declared.Case.{Case}
 use Rattle.scan.specs.declared.survey.Found.{Found}

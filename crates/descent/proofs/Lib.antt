@@ -1,0 +1,4 @@
+pub mod Arms
+pub mod Misfits
+pub mod Parts
+pub mod WholeText

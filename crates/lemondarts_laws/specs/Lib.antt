@@ -1,0 +1,3 @@
+pub mod Session
+pub mod TextTables
+pub mod SpareSheets

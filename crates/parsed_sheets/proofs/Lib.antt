@@ -1,0 +1,11 @@
+pub mod Each
+pub mod ListedNodes
+pub mod FormedNodes
+pub mod Writable
+pub mod Meanings
+pub mod AllUsed
+pub mod Bounds
+pub mod Blocks
+pub mod Wholes
+pub mod TypedNodes
+pub mod TextTyped

@@ -1,0 +1,3 @@
+pub mod EntryTexts
+pub mod Lengths
+pub mod Examples

@@ -1,4 +1,0 @@
-pub mod Appending
-pub mod Lengths
-pub mod Numerals
-pub mod Examples

@@ -1,0 +1,4 @@
+pub mod Beginning
+pub mod Counted
+pub mod Refining
+pub mod Stable

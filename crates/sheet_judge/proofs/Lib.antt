@@ -1,0 +1,4 @@
+pub mod Judging
+pub mod JudgedFrom
+pub mod Malformed
+pub mod Unread

@@ -1,0 +1,3 @@
+pub mod Judge
+pub mod JudgedFrom
+pub mod Malformed
