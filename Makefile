@@ -5,7 +5,7 @@ PREFIX ?= /usr/local
 ARCHIVE ?= target/staticlib/liblemondarts.a
 VERSION := $(shell sed -n 's/^\#define LEMONDARTS_VERSION "\(.*\)"$$/\1/p' include/lemondarts.h)
 
-HEADERS = lemondarts.h lemondarts_sheet.h
+HEADERS = lemondarts.h lemondarts_sheet.h lemondarts_text.h
 include_folder = $(DESTDIR)$(PREFIX)/include
 lib_folder = $(DESTDIR)$(PREFIX)/lib
 

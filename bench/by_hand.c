@@ -20,7 +20,7 @@ static unsigned word(const uint8_t *at) {
 }
 
 /* Whether each of the entries is a row or a trip. One more than a trip wraps to 0, so the largest of these is at most the number of rows. A place
- * has room for 64 blocks of 16 entries, so the last block lies in it: what stands there behind the entries is masked.
+ * has room for 64 blocks of 16 entries, so the last block lies in it: what comes there after the entries is masked.
  */
 #if defined(WITH_SSE2) && defined(__SSE2__)
 #include <emmintrin.h>
@@ -91,12 +91,12 @@ static int place_fits(unsigned state, unsigned row, const uint8_t *table) {
         && (state == FULFILLED || row < rows) && entries_fit(table + LEMONDARTS_TABLE_HEADER, actions * rows, rows);
 }
 
-uint64_t BY_HAND_ACTION(uint8_t *record, size_t record_len, const uint8_t *area, size_t area_len, size_t action);
+uint64_t BY_HAND_ACTION(uint8_t *record, size_t record_length, const uint8_t *area, size_t area_length, size_t action);
 
-uint64_t BY_HAND_ACTION(uint8_t *record, size_t record_len, const uint8_t *area, size_t area_len, size_t action) {
+uint64_t BY_HAND_ACTION(uint8_t *record, size_t record_length, const uint8_t *area, size_t area_length, size_t action) {
     uint8_t entries[LEMONDARTS_PLACES] = { 0 };
     unsigned actions = 0, denied = 0, fulfilled = 0, place;
-    if (record_len < LEMONDARTS_RECORD || area_len < LEMONDARTS_AREA) {
+    if (record_length < LEMONDARTS_RECORD || area_length < LEMONDARTS_AREA) {
         return LEMONDARTS_SHORT_AREA;
     }
     for (place = 0; place < LEMONDARTS_PLACES; place++) {

@@ -8,7 +8,7 @@
 #include <stdlib.h>
 #include <string.h>
 
-#include "lemondarts.h"
+#include "lemondarts_text.h"
 
 /* The roastery's actions. Each satisfies the one proposition of its number. */
 enum { CHARGE, DROP, TRAY, LOG, GAS, ACTIONS, PARTS = 6, MOST = 100 };
@@ -26,10 +26,10 @@ static const char *const parts[PARTS][2] = {
     { "after a drop the log comes before the next charge", "always after now p1 ignoring not or p0 p3 holds p3" },
 };
 
-/* The last node of each part: the one that is named where the part is violated. */
-static unsigned last_nodes[PARTS];
+/* The whole rule: enforce and PART and PART .. PART PART. */
+static char rule[LEMONDARTS_MOST_TEXT] = "enforce";
 
-/* What the calls are lent. */
+/* The caller's buffers. */
 static uint8_t sheet[LEMONDARTS_SHEET];
 static size_t sheet_length;
 static uint8_t record[LEMONDARTS_RECORD];
@@ -57,21 +57,27 @@ static unsigned read_text(const char *text) {
     return LEMONDARTS_NODES(answer);
 }
 
-/* Reads the rule: enforce and PART and PART .. PART PART. Its nodes are those of the parts, in their order, and behind them those of the Ands. So the
- * last node of a part is found by reading each part alone.
- */
-static void read_rule(void) {
-    char text[LEMONDARTS_MOST_TEXT], whole[LEMONDARTS_MOST_TEXT] = "enforce";
-    unsigned nodes = 0, k;
-    for (k = 0; k < PARTS; k++) {
-        snprintf(text, sizeof text, "enforce %s", parts[k][1]);
-        nodes += read_text(text);
-        last_nodes[k] = nodes - 1;
-        strcat(strcat(whole, k + 1 < PARTS ? " and " : " "), parts[k][1]);
+/* Which part a node is, by its words in the text of the rule, or PARTS where it is none. */
+static unsigned part_of(unsigned node) {
+    lemondarts_words words = lemondarts_words_of_node((const uint8_t *)rule, strlen(rule), node);
+    unsigned k = 0;
+    while (k < PARTS && (strlen(parts[k][1]) != words.length || memcmp(parts[k][1], rule + words.start, words.length) != 0)) {
+        k++;
     }
-    printf("the rule has %u nodes\n", read_text(whole));
+    return k;
+}
+
+static void read_rule(void) {
+    unsigned nodes, node, k;
     for (k = 0; k < PARTS; k++) {
-        printf("  node %u: %s\n", last_nodes[k], parts[k][0]);
+        strcat(strcat(rule, k + 1 < PARTS ? " and " : " "), parts[k][1]);
+    }
+    nodes = read_text(rule);
+    printf("the rule has %u nodes\n", nodes);
+    for (node = 0; node < nodes; node++) {
+        if (part_of(node) < PARTS) {
+            printf("  node %u: %s\n", node, parts[part_of(node)][0]);
+        }
     }
 }
 
@@ -88,15 +94,10 @@ static void put_on(void) {
 static void explain(size_t count) {
     uint64_t place[LEMONDARTS_LIST_PLACE];
     uint64_t answer = lemondarts_explain(sheet, sheet_length, list, count, place, LEMONDARTS_LIST_PLACE, work, sizeof work, values, LEMONDARTS_VALUES);
-    unsigned k;
+    unsigned node;
     if (LEMONDARTS_NUMBER(answer) == LEMONDARTS_DENIED) {
-        printf("denied, place %u of the list, node %u", (unsigned)place[0], LEMONDARTS_VALUE(answer));
-        for (k = 0; k < PARTS; k++) {
-            if (last_nodes[k] == LEMONDARTS_VALUE(answer)) {
-                printf(": %s", parts[k][0]);
-            }
-        }
-        printf("\n");
+        node = LEMONDARTS_VALUE(answer);
+        printf("denied, place %u of the list, node %u: %s\n", (unsigned)place[0], node, part_of(node) < PARTS ? parts[part_of(node)][0] : "no part");
     } else if (LEMONDARTS_OK(answer)) {
         printf("no action is denied\n");
     } else {
@@ -133,7 +134,7 @@ int main(void) {
     printf("no action at all: ");
     explain(0);
     list[sizeof asked] = ACTIONS;
-    printf("with an action 5 behind: ");
+    printf("with an action 5 at the end: ");
     explain(sizeof asked + 1);
     read_text("watch ignoring not p1 count 3");
     printf("by a watched rule: ");

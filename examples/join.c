@@ -30,7 +30,7 @@ static const char *const rules[ENFORCED + 1][2] = {
     { "report the third drop", "watch ignoring not p1 count 3" },
 };
 
-/* What the calls are lent. */
+/* The caller's buffers. */
 static uint8_t records[2][LEMONDARTS_RECORD];
 static uint8_t areas[2][LEMONDARTS_AREA];
 static uint8_t tables[LEMONDARTS_MOST_JOINED * LEMONDARTS_TABLE];
@@ -50,7 +50,7 @@ static void put_on(unsigned board, size_t place, const uint8_t *table, size_t le
     must(lemondarts_put_on(records[board], LEMONDARTS_RECORD, areas[board], LEMONDARTS_AREA, place, table, length), name);
 }
 
-/* Reads and compiles a rule. Its table is written behind the `length` bytes of those before it; gives the length with it. */
+/* Reads and compiles a rule. Its table is written after the `length` bytes of those before it; gives the length with it. */
 static size_t add(size_t place, size_t length) {
     uint8_t sheet[LEMONDARTS_SHEET], *table = tables + length;
     const char *name = rules[place][0], *text = rules[place][1];

@@ -43,7 +43,7 @@ static void no_until(lemondarts_sheet *s, unsigned first, unsigned forbidden, un
     lemondarts_sheet_whenever(s, begun, lemondarts_sheet_before_plus(s, released, held));
 }
 
-/* What the calls are lent. */
+/* The caller's buffers. */
 static uint8_t record[LEMONDARTS_RECORD];
 static uint8_t area[LEMONDARTS_AREA];
 static uint8_t table[LEMONDARTS_TABLE];
@@ -107,6 +107,10 @@ static void ask(size_t action) {
 
 int main(void) {
     lemondarts_sheet s;
+    if (lemondarts_version() != LEMONDARTS_VERSION_NUMBER) {
+        printf("the archive is not of this header, %s\n", LEMONDARTS_VERSION);
+        return 1;
+    }
     must(lemondarts_new_board(record, sizeof record, area, sizeof area), "new board");
     ask(CHARGE);
 

@@ -7,7 +7,7 @@
  * - It answers every input. A call that is refused leaves the board and the output as they were, and so does a denied action.
  * - A pointer comes with its length in elements. The pointer must not be null, even where the length is 0, and that many elements must be
  *   readable, and writable where the parameter is not const.
- * - The areas lent to one call must not overlap. No call keeps a pointer.
+ * - The caller's buffers of one call must not overlap. No call keeps a pointer.
  * - Bytes need no alignment; `values`, and `place` of lemondarts_explain, are aligned as uint64_t, to 8 bytes, `actions` of lemondarts_read_text as
  *   uint16_t, to 2.
  * - Threads: nothing is kept between calls, so calls on different boards and areas may run at once. Calls on one board, or with one work area,
@@ -34,11 +34,13 @@
  * - PATCH, where neither is so: stack, time, comments.
  */
 #define LEMONDARTS_VERSION_MAJOR 4
-#define LEMONDARTS_VERSION_MINOR 6
-#define LEMONDARTS_VERSION_PATCH 2
-#define LEMONDARTS_VERSION "4.6.2"
+#define LEMONDARTS_VERSION_MINOR 7
+#define LEMONDARTS_VERSION_PATCH 0
+#define LEMONDARTS_VERSION "4.7.0"
+/* The three as one number, 40700: what lemondarts_version returns where the archive is of this header. */
+#define LEMONDARTS_VERSION_NUMBER (LEMONDARTS_VERSION_MAJOR * 10000u + LEMONDARTS_VERSION_MINOR * 100u + LEMONDARTS_VERSION_PATCH)
 
-/* Lengths. An area may be longer; what stands behind these lengths is not touched. */
+/* Lengths. A buffer may be longer; what comes after these lengths is not touched. */
 #define LEMONDARTS_RECORD 16     /* a board's record, in bytes */
 #define LEMONDARTS_AREA 8256     /* a board's area, in bytes: 1,032 for each of 8 places */
 #define LEMONDARTS_TABLE 1032    /* the output of compiling and joining, in bytes: the longest table */
@@ -104,27 +106,34 @@
 #define LEMONDARTS_KIND_FULFILLING 22u   /* a within k actions, the argument: what follows satisfies b; else what follows those k satisfies c; enforced */
 #define LEMONDARTS_KIND_IGNORING 23u     /* without the actions that satisfy formula a, b is satisfied; of b's type */
 
-/* An answer is one number of 64 bits: four fields of 16 bits, lowest first. */
-#define LEMONDARTS_NUMBER(answer) ((unsigned)((uint64_t)(answer) & 65535u))         /* 0 done, 255 denied, else a refusal */
-#define LEMONDARTS_VALUE(answer) ((unsigned)((uint64_t)(answer) >> 16 & 65535u))    /* see each call; of a sheet's 4 to 9 the node, of 32 the word */
-#define LEMONDARTS_ACTIONS(answer) ((unsigned)((uint64_t)(answer) >> 32 & 65535u))  /* a table's or a sheet's number of actions, 1 to 16 */
-#define LEMONDARTS_ROWS(answer) ((unsigned)((uint64_t)(answer) >> 48 & 65535u))     /* a table's number of rows, 1 to 64 */
-#define LEMONDARTS_NODES(answer) ((unsigned)((uint64_t)(answer) >> 48 & 65535u))    /* of a done read_text: the sheet's number of nodes, 1 to 64 */
+/* An answer is one number of 64 bits: four fields of 16 bits, lowest first. Each name below evaluates its answer once, so this may be a call:
+ * LEMONDARTS_OK(lemondarts_load(table, length)).
+ */
+static inline unsigned lemondarts_field(uint64_t answer, unsigned field) { return (answer >> 16 * field) & 65535u; }
+#define LEMONDARTS_NUMBER(answer) lemondarts_field(answer, 0)  /* 0 done, 255 denied, else a refusal */
+#define LEMONDARTS_VALUE(answer) lemondarts_field(answer, 1)   /* see each call; of a sheet's 4 to 9 the node, of 32 the word */
+#define LEMONDARTS_ACTIONS(answer) lemondarts_field(answer, 2) /* a table's or a sheet's number of actions, 1 to 16 */
+#define LEMONDARTS_ROWS(answer) lemondarts_field(answer, 3)    /* a table's number of rows, 1 to 64 */
+#define LEMONDARTS_NODES(answer) lemondarts_field(answer, 3)   /* of a done read_text: the sheet's number of nodes, 1 to 64 */
 
 /* Whether a call other than lemondarts_action is done. Of lemondarts_explain: whether no action of the list is denied. */
 #define LEMONDARTS_OK(answer) (LEMONDARTS_NUMBER(answer) == LEMONDARTS_DONE)
 
 /* Whether lemondarts_action permits: the number is 0, whatever watched rules the action fulfils. Do not ask `if (!answer)`: the answer to a
- * permitted action that fulfils a rule is not 0, and the action would be turned down.
+ * permitted action that fulfils a rule is not 0, and the action would be rejected.
  */
 #define LEMONDARTS_PERMITTED(answer) (LEMONDARTS_NUMBER(answer) == LEMONDARTS_DONE)
 #define LEMONDARTS_FULFILS(answer, place) ((LEMONDARTS_VALUE(answer) >> (place) & 1u) != 0) /* of a permitted action, place 0 to 7 */
 
 /* The length in bytes of the table that a done load, compile or join speaks of. */
-#define LEMONDARTS_TABLE_LENGTH(answer) ((size_t)LEMONDARTS_TABLE_HEADER + (size_t)LEMONDARTS_ROWS(answer) * LEMONDARTS_ACTIONS(answer))
+#define LEMONDARTS_TABLE_LENGTH(answer) lemondarts_table_length(answer)
+static inline size_t lemondarts_table_length(uint64_t answer) {
+    return LEMONDARTS_TABLE_HEADER + LEMONDARTS_ROWS(answer) * LEMONDARTS_ACTIONS(answer);
+}
 
 /* The length in bytes of the sheet that a done read_text wrote. */
-#define LEMONDARTS_SHEET_LENGTH(answer) ((size_t)LEMONDARTS_VALUE(answer))
+#define LEMONDARTS_SHEET_LENGTH(answer) lemondarts_sheet_length(answer)
+static inline size_t lemondarts_sheet_length(uint64_t answer) { return LEMONDARTS_VALUE(answer); }
 
 /* Types, the value of a done load, compile or join. */
 #define LEMONDARTS_ENFORCED 1u /* trips when its policy becomes violated: denies actions */
@@ -142,11 +151,11 @@
 #define LEMONDARTS_BOUND_TOO_LARGE 7u    /* a finite bound above 65,534: shorten the rule */
 #define LEMONDARTS_TOO_MANY_VALUES 8u    /* over 1,024 remembered values: simplify the node, or join fewer tables */
 #define LEMONDARTS_TOO_MANY_ROWS 9u      /* over 64 rows: simplify the node, or join fewer tables */
-#define LEMONDARTS_MALFORMED 10u         /* table of wrong length, header or entry, or bytes behind those to join: compile or send it again */
+#define LEMONDARTS_MALFORMED 10u         /* table of wrong length, header or entry, or bytes after those to join: compile or send it again */
 #define LEMONDARTS_NOT_CANONICAL 11u     /* rows misnumbered, unmet or alike: compile the sheet again, do not repair the table */
 #define LEMONDARTS_NO_ACTION 12u         /* the action, or one of the list to explain, is not in the rules' list: correct the number */
 #define LEMONDARTS_NO_PLACE 13u          /* the place is not below 8: correct the number */
-#define LEMONDARTS_SHORT_AREA 14u        /* a lent area, or the record, is too short: lend the length above */
+#define LEMONDARTS_SHORT_AREA 14u        /* a buffer, the record among them, is too short: see the lengths above */
 #define LEMONDARTS_PLACE_EMPTY 21u       /* nothing to take off */
 #define LEMONDARTS_PLACE_TAKEN 22u       /* take the old table off first, or use another place */
 #define LEMONDARTS_OTHER_ACTIONS 23u     /* the rules on, or those to join, have another number of actions: use one action list */
@@ -175,7 +184,7 @@ static inline const char *lemondarts_refusal_text(unsigned number) {
     case LEMONDARTS_NOT_CANONICAL: return "the table's rows are misnumbered, not all met, or two are alike";
     case LEMONDARTS_NO_ACTION: return "an action is not in the rules' list";
     case LEMONDARTS_NO_PLACE: return "the place is not below 8";
-    case LEMONDARTS_SHORT_AREA: return "a lent area is too short";
+    case LEMONDARTS_SHORT_AREA: return "a buffer is too short";
     case LEMONDARTS_PLACE_EMPTY: return "the place is empty";
     case LEMONDARTS_PLACE_TAKEN: return "the place is taken";
     case LEMONDARTS_OTHER_ACTIONS: return "the rules on, or those to join, have another number of actions";
@@ -194,29 +203,34 @@ static inline const char *lemondarts_refusal_text(unsigned number) {
 extern "C" {
 #endif
 
+/* The version of the archive. Where it is not LEMONDARTS_VERSION_NUMBER, this header is of another archive: stop.
+ * It is no answer: it has no fields, and is never a refusal.
+ */
+uint64_t lemondarts_version(void);
+
 /* Loads a table: checks it, and keeps nothing.
  * Reads `table`, any bytes. Writes nothing.
  * Done: the value is the type, with ACTIONS and ROWS. Else 10 or 11.
  */
-uint64_t lemondarts_load(const uint8_t *table, size_t table_len);
+uint64_t lemondarts_load(const uint8_t *table, size_t table_length);
 
 /* Compiles a rule sheet to its table.
  * Reads `sheet`, any bytes. `out` is 1,032 bytes or more, `work` 65,536 bytes or more, `values` 1,024 numbers or more, aligned to 8 bytes.
- * Done: the table is at the front of `out`, LEMONDARTS_TABLE_LENGTH bytes, and what stands behind it is unchanged; the value is the type, with
+ * Done: the table is at the front of `out`, LEMONDARTS_TABLE_LENGTH bytes, and what comes after it is unchanged; the value is the type, with
  * ACTIONS and ROWS. Refused: `out` is unchanged. The first refusal in the order 14, 1, 2, 3; node by node 4, 5 of all nodes; node by node 6, 7 of
  * those that are used; the last node's 6; node by node 8, 9 of those that are used. For 4 to 9 the value is the node.
  * `work` and `values` may hold anything. On return they are zero over the lengths above, and unchanged where the answer is 14.
  */
-uint64_t lemondarts_compile(const uint8_t *sheet, size_t sheet_len, uint8_t *out, size_t out_len,
-                            uint8_t *work, size_t work_len, uint64_t *values, size_t values_len);
+uint64_t lemondarts_compile(const uint8_t *sheet, size_t sheet_length, uint8_t *out, size_t out_length,
+                            uint8_t *work, size_t work_length, uint64_t *values, size_t values_length);
 
 /* Joins tables: one that denies exactly where at least one of them denies.
- * Reads `tables`, any bytes: `count` tables, 2 to 8, one behind the other, each as long as its own header says (8 + rows x actions bytes). They
+ * Reads `tables`, any bytes: `count` tables, 2 to 8, one after the other, each as long as its own header says (8 + rows x actions bytes). They
  * are enforced and have one number of actions. `out`, `work` and `values` are as for lemondarts_compile.
- * Done: the table is at the front of `out`, LEMONDARTS_TABLE_LENGTH bytes, and what stands behind it is unchanged; the value is
+ * Done: the table is at the front of `out`, LEMONDARTS_TABLE_LENGTH bytes, and what comes after it is unchanged; the value is
  * LEMONDARTS_ENFORCED, with ACTIONS and ROWS. It is a table like any other: it may be put on, or joined again. The order of the tables, and whether
  * some of them were joined before, make no difference to its bytes. Refused: `out` is unchanged. The first refusal in the order 14; 2; table by
- * table 10, 11, 34; 10 for bytes behind the last table; 23; 8 (over 1,024 tuples of their rows occur); 9 (over 64 rows). The value is 0.
+ * table 10, 11, 34; 10 for bytes after the last table; 23; 8 (over 1,024 tuples of their rows occur); 9 (over 64 rows). The value is 0.
  * `work` and `values` may hold anything. On return they are zero over the lengths above, and unchanged where the answer is 14.
  * A denial no longer says which of the rules denied: put tables on places of their own where that is to be told.
  */
@@ -227,20 +241,21 @@ uint64_t lemondarts_join(size_t count, const uint8_t *tables, size_t tables_leng
  * Reads `sheet`, any bytes, enforced, and `actions`, any bytes and any number of them, also none: a byte an action, its number. `place` is one
  * number or more, aligned to 8 bytes; `work` and `values` are as for lemondarts_compile.
  * Done: no action of the list is denied; the value is 0. Denied (255): place[0] is the place in the list, from 0, of the first denied action, and
- * what stands behind it is unchanged. The value is the node: of the policy's own node, which is the last, and those reached from it through And
+ * what comes after it is unchanged. The value is the node: of the policy's own node, which is the last, and those reached from it through And
  * alone, the lowest-numbered one that is violated by the actions up to and with the denied one. It is no And. Refused, or done: `place` is unchanged.
  * The first refusal in the order 14; 1 to 9 as lemondarts_compile answers them; 34 where the sheet is watched; 12 where a number anywhere in the
- * list, also behind the denial, is no action of the sheet. For 4 to 9 the value is the node.
+ * list, also after the denial, is no action of the sheet. For 4 to 9 the value is the node.
  * `work` and `values` may hold anything. On return they are zero over the lengths above, and unchanged where the answer is 14.
  * A rule on a board is moved by permitted actions alone. To have a denial of the board explained, list the actions that were permitted since the
- * rule was put on, and the denied one behind them.
+ * rule was put on, and the denied one after them.
  */
 uint64_t lemondarts_explain(const uint8_t *sheet, size_t sheet_length, const uint8_t *actions, size_t actions_length, uint64_t *place,
                             size_t place_length, uint8_t *work, size_t work_length, uint64_t *values, size_t values_length);
 
 /* Reads a rule typed as text, and writes its sheet.
  * Reads `text`, any bytes, and `actions`, for each action the set of propositions that it satisfies, aligned to 2 bytes. `sheet` is 362 bytes or
- * more. The text is words of lower-case letters and digits, parted by one or more blanks or newlines, which may also stand at either end. It is
+ * more. The text is words of lower-case letters and digits, separated by one or more spaces or newlines, which may also stand at either end; a tab
+ * or any other byte separates nothing. It is
  *     watch W, or enforce E
  * where W, a watched policy, is one of
  *     now A, count K, not E, and W W, or W W, eventually W, before W W, after W W, ignoring A W
@@ -249,16 +264,17 @@ uint64_t lemondarts_explain(const uint8_t *sheet, size_t sheet_length, const uin
  * A, a formula, is one of
  *     true, false, p0 to p15, not A, and A A, or A A
  * and K is 1 to 60 without leading zero. `enforce always after now p0 holds not p1` says: no p1 right after p0.
- * Done: the sheet is at the front of `sheet`, LEMONDARTS_SHEET_LENGTH bytes, and what stands behind it is unchanged; its action list is `actions`,
- * and its nodes stand in the order of the text, parts before their whole. The value is its length, with ACTIONS and NODES. It can be given to
- * lemondarts_compile and lemondarts_explain, which may refuse it by 8 or 9, and by none of 1 to 7. Refused: `sheet` is unchanged. The first
- * refusal in the order 14, 2 (no action, or over 16), 31, 32, 33. For 32 the value is the number of words before the first that does not fit, or of all words where
- * the text ends too soon.
+ * Done: the sheet is at the front of `sheet`, LEMONDARTS_SHEET_LENGTH bytes, and what comes after it is unchanged; its action list is `actions`.
+ * Each word but `watch`, `enforce` and a K is a node of its own, and follows the nodes of its parts, those of the left part first: so the word after
+ * `watch` or `enforce` is the last node. include/lemondarts_text.h finds the words of a node. The value is the sheet's length, with ACTIONS and
+ * NODES. It can be given to lemondarts_compile and lemondarts_explain, which may refuse it by 8 or 9, and by none of 1 to 7. Refused: `sheet` is
+ * unchanged. The first refusal in the order 14, 2 (no action, or over 16), 31, 32, 33. For 32 the value is the number of words before the first that
+ * does not fit, or of all words where the text ends too soon.
  */
 uint64_t lemondarts_read_text(const uint8_t *text, size_t text_length, const uint16_t *actions, size_t action_count,
                               uint8_t *sheet, size_t sheet_length);
 
-/* The board is two areas that the caller keeps and lends to each call: the record, 16 bytes, and the area, 8,256 bytes, where its tables stand.
+/* The board is two buffers that the caller keeps and passes to each call: the record, 16 bytes, and the area, 8,256 bytes, where its tables stand.
  * Keep the two together, and write to neither. The record has two bytes a place: its case (0 empty, 1 enforced, 2 watched, 3 fulfilled) and its
  * row (0 for 0 and 3). Any bytes are read as a record; one that cannot be is refused by 25.
  * After a done call the record's 16 bytes are written; after a refusal or a denial neither record nor area is changed.
@@ -267,18 +283,18 @@ uint64_t lemondarts_read_text(const uint8_t *text, size_t text_length, const uin
 /* Makes a new board: eight empty places and a zeroed area. Reads neither; writes both.
  * Done, or 14.
  */
-uint64_t lemondarts_new_board(uint8_t *record, size_t record_len, uint8_t *area, size_t area_len);
+uint64_t lemondarts_new_board(uint8_t *record, size_t record_length, uint8_t *area, size_t area_length);
 
 /* Puts a table on an empty place, starting at row 0. Reads record, area and `table`, any bytes; writes the record and the place's 1,032 bytes.
  * `table` may be the output of lemondarts_compile or lemondarts_join with its length given by LEMONDARTS_TABLE_LENGTH, and may not lie in `area`.
  * Done, or the first of 14, 13, 25, 22, 10, 11, 23.
  */
-uint64_t lemondarts_put_on(uint8_t *record, size_t record_len, uint8_t *area, size_t area_len, size_t place, const uint8_t *table, size_t table_len);
+uint64_t lemondarts_put_on(uint8_t *record, size_t record_length, uint8_t *area, size_t area_length, size_t place, const uint8_t *table, size_t table_length);
 
 /* Empties a place, and zeroes its 1,032 bytes. Reads record and area; writes the record and the place's bytes.
  * Done, or the first of 14, 13, 25, 21.
  */
-uint64_t lemondarts_take_off(uint8_t *record, size_t record_len, uint8_t *area, size_t area_len, size_t place);
+uint64_t lemondarts_take_off(uint8_t *record, size_t record_length, uint8_t *area, size_t area_length, size_t place);
 
 /* Asks whether an action is permitted, and if it is, moves every rule by it. Reads record and area; writes the record where permitted, and never
  * the area.
@@ -286,7 +302,7 @@ uint64_t lemondarts_take_off(uint8_t *record, size_t record_len, uint8_t *area, 
  * (LEMONDARTS_FULFILS). Denied (255): the value is the lowest place that denies; no rule has moved. Else the first of 14, 25, 24, 12: carry no
  * action out.
  */
-uint64_t lemondarts_action(uint8_t *record, size_t record_len, const uint8_t *area, size_t area_len, size_t action);
+uint64_t lemondarts_action(uint8_t *record, size_t record_length, const uint8_t *area, size_t area_length, size_t action);
 
 #ifdef __cplusplus
 }

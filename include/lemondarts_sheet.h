@@ -17,12 +17,19 @@
 
 #include "lemondarts.h"
 
+/* A number below 256 as a byte. */
+#ifdef __cplusplus
+#define LEMONDARTS_BYTE(number) static_cast<uint8_t>(number)
+#else
+#define LEMONDARTS_BYTE(number) ((uint8_t)(number))
+#endif
+
 /* A sheet in the making. */
 typedef struct lemondarts_sheet {
     uint16_t propositions[LEMONDARTS_MOST_ACTIONS];              /* of each action, bit p for proposition p */
     uint8_t nodes[LEMONDARTS_MOST_NODES][LEMONDARTS_SHEET_NODE]; /* kind, argument, parts a, b, c */
-    int action_count;
-    int node_count;
+    uint8_t action_count;
+    uint8_t node_count;
     int failed; /* an action or a node was not taken: without it the sheet would be another rule */
 } lemondarts_sheet;
 
@@ -46,16 +53,16 @@ static inline int lemondarts_sheet_action(lemondarts_sheet *sheet, uint16_t prop
 /* Adds a node. Fields that its kind does not use are 0. Gives its number, or -1 where there are 64, or a field is no byte; a part of -1 is none. */
 static inline int lemondarts_sheet_node(lemondarts_sheet *sheet, unsigned kind, unsigned argument, int a, int b, int c) {
     uint8_t *node;
-    if (sheet->node_count >= LEMONDARTS_MOST_NODES || (kind | argument | (unsigned)a | (unsigned)b | (unsigned)c) > 255u) {
+    if (sheet->node_count >= LEMONDARTS_MOST_NODES || (kind | argument) > 255u || (a | b | c) < 0 || (a | b | c) > 255) {
         sheet->failed = 1;
         return -1;
     }
     node = sheet->nodes[sheet->node_count];
-    node[0] = (uint8_t)kind;
-    node[1] = (uint8_t)argument;
-    node[2] = (uint8_t)a;
-    node[3] = (uint8_t)b;
-    node[4] = (uint8_t)c;
+    node[0] = LEMONDARTS_BYTE(kind);
+    node[1] = LEMONDARTS_BYTE(argument);
+    node[2] = LEMONDARTS_BYTE(a);
+    node[3] = LEMONDARTS_BYTE(b);
+    node[4] = LEMONDARTS_BYTE(c);
     return sheet->node_count++;
 }
 
@@ -86,22 +93,22 @@ static inline int lemondarts_sheet_ignoring(lemondarts_sheet *s, int a, int b) {
 /* Whenever a: b, which is two nodes: Always (After+ a b). */
 static inline int lemondarts_sheet_whenever(lemondarts_sheet *s, int a, int b) { return lemondarts_sheet_always(s, lemondarts_sheet_after_plus(s, a, b)); }
 
-/* A number of 16 bits, low byte first. Gives what stands behind it. */
+/* A number of 16 bits, low byte first. Gives what comes after it. */
 static inline uint8_t *lemondarts_sheet_word(uint8_t *at, unsigned number) {
-    at[0] = (uint8_t)(number & 255u);
-    at[1] = (uint8_t)(number >> 8 & 255u);
+    at[0] = LEMONDARTS_BYTE(number & 255u);
+    at[1] = LEMONDARTS_BYTE(number >> 8 & 255u);
     return at + 2;
 }
 
 /* Writes the sheet: header, action list, node list, nothing more. Gives its length, at most LEMONDARTS_SHEET; or 0, with `out` unchanged, where
  * `out` is too short, there is no action or no node, or one was not taken. The sheet may be gone on with.
  */
-static inline size_t lemondarts_sheet_finish(const lemondarts_sheet *sheet, uint8_t *out, size_t out_len) {
-    unsigned actions = (unsigned)sheet->action_count, nodes = (unsigned)sheet->node_count;
+static inline size_t lemondarts_sheet_finish(const lemondarts_sheet *sheet, uint8_t *out, size_t out_length) {
+    unsigned actions = sheet->action_count, nodes = sheet->node_count;
     unsigned nodes_at = LEMONDARTS_SHEET_HEADER + LEMONDARTS_SHEET_ACTION * actions;
     unsigned total = nodes_at + LEMONDARTS_SHEET_NODE * nodes;
     unsigned n, field;
-    if (sheet->failed || actions == 0 || nodes == 0 || out_len < total) {
+    if (sheet->failed || actions == 0 || nodes == 0 || out_length < total) {
         return 0;
     }
     out = lemondarts_sheet_word(out, actions);

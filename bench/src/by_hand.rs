@@ -5,8 +5,15 @@ use reference::board::{AREA, PLACES, RECORD};
 use reference::table::{HEADER, LARGEST};
 
 extern "C" {
-    fn by_hand_action(record: *mut u8, record_len: usize, area: *const u8, area_len: usize, action: usize) -> u64;
-    fn by_hand_action_with_sse2(record: *mut u8, len: usize, area: *const u8, area_len: usize, action: usize) -> u64;
+    fn by_hand_action(record: *mut u8, record_length: usize, area: *const u8, area_length: usize, action: usize)
+        -> u64;
+    fn by_hand_action_with_sse2(
+        record: *mut u8,
+        record_length: usize,
+        area: *const u8,
+        area_length: usize,
+        action: usize,
+    ) -> u64;
 }
 
 pub fn action(record: &mut [u8], area: &[u8], action: usize) -> u64 {

@@ -15,7 +15,7 @@ const ROUNDS: usize = 5;
 /// Repetitions in a round.
 const REPETITIONS: usize = 61;
 
-/// A count, and as many tables one behind the other.
+/// A count, and as many tables one after the other.
 type Tables = (usize, Vec<u8>);
 
 fn of(tables: &[Vec<u8>]) -> Tables {

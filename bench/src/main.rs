@@ -11,7 +11,7 @@ mod denials;
 mod formulas;
 mod joins;
 #[allow(dead_code)] // not every call is timed
-#[path = "../../tests/fuzz/src/library.rs"]
+#[path = "../../examples/rust/src/calls.rs"]
 mod library;
 mod openfst;
 mod spare;
@@ -327,7 +327,7 @@ fn main() {
     compile("64 rows, 16 actions", &full_sheets);
     board_calls(FULL, &tables_of(&full_sheets, 16));
 
-    println!("\nWhat grows: values, rows, bytes on a board. tools/plot draws these.\n");
+    println!("\nWhat grows: values, rows, bytes on a board. tools/times draws these.\n");
     let values = |sheet: &Sheet| {
         let machines = reference::compile::machines(sheet).expect("inside the limits");
         machines.iter().map(Machine::states).max().expect("a policy")

@@ -32,7 +32,7 @@ fn read(text: &str, rule: &House) -> Sheet {
 }
 
 /// The rule with these before it, of which it uses no node. Each of them compiles by itself.
-fn behind(texts: &[&str], rule: &House) -> Vec<u8> {
+fn after(texts: &[&str], rule: &House) -> Vec<u8> {
     let mut nodes: Vec<Node> = Vec::new();
     for text in texts.iter().copied().chain([rule.text()]) {
         let own = read(text, rule);
@@ -64,6 +64,6 @@ pub fn all() {
     let rule = &RULES[1];
     let alone = [read(rule.text(), rule).bytes()];
     line("nothing", alone[0].clone(), &alone);
-    line("eight old rules, 52 nodes", behind(&old_rules(), rule), &alone);
-    line("twelve rules that count far, 52 nodes", behind(&large_rules(), rule), &alone);
+    line("eight old rules, 52 nodes", after(&old_rules(), rule), &alone);
+    line("twelve rules that count far, 52 nodes", after(&large_rules(), rule), &alone);
 }

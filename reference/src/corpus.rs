@@ -1,4 +1,4 @@
-//! The corpus: the inputs of the programs second_cases, load_cases, board_cases, text_cases, join_cases and
+//! The corpus: the inputs of the programs compiler_cases, load_cases, board_cases, text_cases, join_cases and
 //! explain_cases, each with the answer expected, and what the programs print. README.md describes its bytes.
 
 pub mod calls;

@@ -5,27 +5,33 @@
 use crate::calls;
 use std::slice::{from_raw_parts, from_raw_parts_mut};
 
+/// The version of include/lemondarts.h, as one number: 4.7.0.
 #[no_mangle]
-pub unsafe extern "C" fn lemondarts_load(table: *const u8, table_len: usize) -> u64 {
-    calls::load(from_raw_parts(table, table_len))
+pub extern "C" fn lemondarts_version() -> u64 {
+    40_700
+}
+
+#[no_mangle]
+pub unsafe extern "C" fn lemondarts_load(table: *const u8, table_length: usize) -> u64 {
+    calls::load(from_raw_parts(table, table_length))
 }
 
 #[no_mangle]
 pub unsafe extern "C" fn lemondarts_compile(
     sheet: *const u8,
-    sheet_len: usize,
+    sheet_length: usize,
     out: *mut u8,
-    out_len: usize,
+    out_length: usize,
     work: *mut u8,
-    work_len: usize,
+    work_length: usize,
     values: *mut u64,
-    values_len: usize,
+    values_length: usize,
 ) -> u64 {
     calls::compile(
-        from_raw_parts(sheet, sheet_len),
-        from_raw_parts_mut(out, out_len),
-        from_raw_parts_mut(work, work_len),
-        from_raw_parts_mut(values, values_len),
+        from_raw_parts(sheet, sheet_length),
+        from_raw_parts_mut(out, out_length),
+        from_raw_parts_mut(work, work_length),
+        from_raw_parts_mut(values, values_length),
     )
 }
 
@@ -91,45 +97,45 @@ pub unsafe extern "C" fn lemondarts_read_text(
 #[no_mangle]
 pub unsafe extern "C" fn lemondarts_new_board(
     record: *mut u8,
-    record_len: usize,
+    record_length: usize,
     area: *mut u8,
-    area_len: usize,
+    area_length: usize,
 ) -> u64 {
-    calls::new_board(from_raw_parts_mut(record, record_len), from_raw_parts_mut(area, area_len))
+    calls::new_board(from_raw_parts_mut(record, record_length), from_raw_parts_mut(area, area_length))
 }
 
 #[no_mangle]
 pub unsafe extern "C" fn lemondarts_put_on(
     record: *mut u8,
-    record_len: usize,
+    record_length: usize,
     area: *mut u8,
-    area_len: usize,
+    area_length: usize,
     place: usize,
     table: *const u8,
-    table_len: usize,
+    table_length: usize,
 ) -> u64 {
-    let (record, area) = (from_raw_parts_mut(record, record_len), from_raw_parts_mut(area, area_len));
-    calls::put_on(record, area, place, from_raw_parts(table, table_len))
+    let (record, area) = (from_raw_parts_mut(record, record_length), from_raw_parts_mut(area, area_length));
+    calls::put_on(record, area, place, from_raw_parts(table, table_length))
 }
 
 #[no_mangle]
 pub unsafe extern "C" fn lemondarts_take_off(
     record: *mut u8,
-    record_len: usize,
+    record_length: usize,
     area: *mut u8,
-    area_len: usize,
+    area_length: usize,
     place: usize,
 ) -> u64 {
-    calls::take_off(from_raw_parts_mut(record, record_len), from_raw_parts_mut(area, area_len), place)
+    calls::take_off(from_raw_parts_mut(record, record_length), from_raw_parts_mut(area, area_length), place)
 }
 
 #[no_mangle]
 pub unsafe extern "C" fn lemondarts_action(
     record: *mut u8,
-    record_len: usize,
+    record_length: usize,
     area: *const u8,
-    area_len: usize,
+    area_length: usize,
     action: usize,
 ) -> u64 {
-    calls::action(from_raw_parts_mut(record, record_len), from_raw_parts(area, area_len), action)
+    calls::action(from_raw_parts_mut(record, record_length), from_raw_parts(area, area_length), action)
 }

@@ -47,8 +47,8 @@ static void given(const char *digits) {
     }
 }
 
-/* Explains with these lengths of the areas. Everything lent holds other bytes first. */
-static uint64_t explain_lent(size_t place_length, size_t work_length, size_t values_length) {
+/* Explains with these lengths of the buffers. All of them hold other bytes first. */
+static uint64_t explain_in(size_t place_length, size_t work_length, size_t values_length) {
     memset(place, BEFORE, sizeof place);
     memset(work, BEFORE, sizeof work);
     memset(values, BEFORE, sizeof values);
@@ -56,10 +56,10 @@ static uint64_t explain_lent(size_t place_length, size_t work_length, size_t val
 }
 
 static uint64_t explain(void) {
-    return explain_lent(LEMONDARTS_LIST_PLACE + MORE, sizeof work, LEMONDARTS_VALUES + MORE);
+    return explain_in(LEMONDARTS_LIST_PLACE + MORE, sizeof work, LEMONDARTS_VALUES + MORE);
 }
 
-/* Whether both work areas are zero over their lengths, and as they were behind these. */
+/* Whether both work areas are zero over their lengths, and as they were after these. */
 static int cleared(void) {
     return all(work, 0, LEMONDARTS_WORK, 0) && all(work, LEMONDARTS_WORK, sizeof work, BEFORE)
         && all(values, 0, 8 * LEMONDARTS_VALUES, 0) && all(values, 8 * LEMONDARTS_VALUES, sizeof values, BEFORE);
@@ -75,7 +75,7 @@ static void answered(const char *what, unsigned number, unsigned value) {
 }
 
 static void short_of(const char *what, size_t place_length, size_t work_length, size_t values_length) {
-    check(what, explain_lent(place_length, work_length, values_length) == LEMONDARTS_SHORT_AREA && all(place, 0, sizeof place, BEFORE)
+    check(what, explain_in(place_length, work_length, values_length) == LEMONDARTS_SHORT_AREA && all(place, 0, sizeof place, BEFORE)
           && all(work, 0, sizeof work, BEFORE) && all(values, 0, sizeof values, BEFORE));
 }
 
@@ -94,7 +94,7 @@ int main(void) {
     denied("the fourth", 3, 9);
     given("2320");
     denied("two parts at once", 3, 3);
-    check("areas of the lengths asked for", explain_lent(LEMONDARTS_LIST_PLACE, LEMONDARTS_WORK, LEMONDARTS_VALUES) == (3u << 16 | LEMONDARTS_DENIED)
+    check("areas of the lengths asked for", explain_in(LEMONDARTS_LIST_PLACE, LEMONDARTS_WORK, LEMONDARTS_VALUES) == (3u << 16 | LEMONDARTS_DENIED)
           && place[0] == 3);
 
     short_of("no place", 0, LEMONDARTS_WORK, LEMONDARTS_VALUES);
@@ -104,7 +104,7 @@ int main(void) {
     given("4");
     answered("no such action", LEMONDARTS_NO_ACTION, 0);
     given("2304");
-    answered("no such action, behind the denial", LEMONDARTS_NO_ACTION, 0);
+    answered("no such action, after the denial", LEMONDARTS_NO_ACTION, 0);
     rule("watch count 2");
     answered("a watched sheet", LEMONDARTS_WATCHED_TABLE, 0);
     rule("watch after count 60 count 5");

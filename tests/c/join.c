@@ -32,7 +32,7 @@ static void begin(void) {
     length = 0;
 }
 
-/* Writes a table behind those before it: counts an action of its own, and denies it behind `rows` - 1 of them. */
+/* Writes a table after those before it: counts an action of its own, and denies it after `rows` - 1 of them. */
 static void counting(unsigned type, unsigned actions, unsigned rows, unsigned counted) {
     uint8_t header[LEMONDARTS_TABLE_HEADER] = { 0, 0, 0, 0, 0, 0, LEMONDARTS_TABLE_HEADER, 0 };
     unsigned row, action;
@@ -48,8 +48,8 @@ static void counting(unsigned type, unsigned actions, unsigned rows, unsigned co
     }
 }
 
-/* Joins with these lengths of the areas. Everything lent holds other bytes first. */
-static uint64_t join_lent(size_t count, size_t out_length, size_t work_length, size_t values_length) {
+/* Joins with these lengths of the buffers. All of them hold other bytes first. */
+static uint64_t join_in(size_t count, size_t out_length, size_t work_length, size_t values_length) {
     memset(out, BEFORE, sizeof out);
     memset(work, BEFORE, sizeof work);
     memset(values, BEFORE, sizeof values);
@@ -57,10 +57,10 @@ static uint64_t join_lent(size_t count, size_t out_length, size_t work_length, s
 }
 
 static uint64_t join(size_t count) {
-    return join_lent(count, sizeof out, sizeof work, LEMONDARTS_VALUES + MORE);
+    return join_in(count, sizeof out, sizeof work, LEMONDARTS_VALUES + MORE);
 }
 
-/* Whether both work areas are zero over their lengths, and as they were behind these. */
+/* Whether both work areas are zero over their lengths, and as they were after these. */
 static int cleared(void) {
     return all(work, 0, LEMONDARTS_WORK, 0) && all(work, LEMONDARTS_WORK, sizeof work, BEFORE)
         && all(values, 0, 8 * LEMONDARTS_VALUES, 0) && all(values, 8 * LEMONDARTS_VALUES, sizeof values, BEFORE);
@@ -71,7 +71,7 @@ static void refused(const char *what, size_t count, unsigned number) {
 }
 
 static void short_of(const char *what, size_t out_length, size_t work_length, size_t values_length) {
-    check(what, join_lent(0, out_length, work_length, values_length) == LEMONDARTS_SHORT_AREA && all(out, 0, sizeof out, BEFORE)
+    check(what, join_in(0, out_length, work_length, values_length) == LEMONDARTS_SHORT_AREA && all(out, 0, sizeof out, BEFORE)
           && all(work, 0, sizeof work, BEFORE) && all(values, 0, sizeof values, BEFORE));
 }
 
@@ -87,10 +87,10 @@ int main(void) {
     answer = join(2);
     check("two tables are joined", LEMONDARTS_OK(answer) && LEMONDARTS_VALUE(answer) == LEMONDARTS_ENFORCED && LEMONDARTS_ACTIONS(answer) == 2
           && LEMONDARTS_ROWS(answer) == 6 && LEMONDARTS_TABLE_LENGTH(answer) == sizeof expected);
-    check("their table, and nothing behind it", memcmp(out, expected, sizeof expected) == 0 && all(out, sizeof expected, sizeof out, BEFORE));
+    check("their table, and nothing after it", memcmp(out, expected, sizeof expected) == 0 && all(out, sizeof expected, sizeof out, BEFORE));
     check("the work areas are zero", cleared());
     check("it loads", lemondarts_load(out, sizeof expected) == answer);
-    check("areas of the lengths asked for", join_lent(2, LEMONDARTS_TABLE, LEMONDARTS_WORK, LEMONDARTS_VALUES) == answer
+    check("areas of the lengths asked for", join_in(2, LEMONDARTS_TABLE, LEMONDARTS_WORK, LEMONDARTS_VALUES) == answer
           && memcmp(out, expected, sizeof expected) == 0);
 
     short_of("an output of 1,031 bytes", LEMONDARTS_TABLE - 1, LEMONDARTS_WORK, LEMONDARTS_VALUES);

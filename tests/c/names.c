@@ -1,4 +1,4 @@
-/* The macros and texts of include/lemondarts.h: version, fields of an answer, a text for each number. Needs no library. */
+/* The names and texts of include/lemondarts.h: version, fields of an answer, a text for each number. For C and C++; needs no library. */
 #include <stdio.h>
 #include <string.h>
 
@@ -11,6 +11,27 @@ static void check(const char *what, int right) {
         printf("wrong: %s\n", what);
         failures++;
     }
+}
+
+/* An answer by its four fields. */
+static uint64_t packed(uint64_t number, uint64_t value, uint64_t actions, uint64_t rows) {
+    return rows << 48 | actions << 32 | value << 16 | number;
+}
+
+/* A call that counts how often it is made. */
+static unsigned calls;
+static uint64_t called(void) {
+    calls++;
+    return packed(0, LEMONDARTS_ENFORCED, 5, 21);
+}
+
+/* Each name evaluates its answer once. */
+static void once(void) {
+    check("fields of a call", LEMONDARTS_NUMBER(called()) == 0 && LEMONDARTS_VALUE(called()) == 1 && LEMONDARTS_ACTIONS(called()) == 5
+          && LEMONDARTS_ROWS(called()) == 21 && LEMONDARTS_NODES(called()) == 21);
+    check("verdicts of a call", LEMONDARTS_OK(called()) && LEMONDARTS_PERMITTED(called()) && LEMONDARTS_FULFILS(called(), 0));
+    check("lengths of a call", LEMONDARTS_TABLE_LENGTH(called()) == 113 && LEMONDARTS_SHEET_LENGTH(called()) == 1);
+    check("a call made once for each", calls == 10);
 }
 
 /* Every number of the header has a text of its own, and no other number has one. */
@@ -31,17 +52,21 @@ static void texts(void) {
 
 int main(void) {
     char version[32];
-    uint64_t compiled = (uint64_t)64 << 48 | (uint64_t)16 << 32 | (uint64_t)LEMONDARTS_WATCHED << 16;
-    uint64_t fulfilling = (uint64_t)0x81 << 16;
-    uint64_t denied = (uint64_t)7 << 16 | LEMONDARTS_DENIED;
-    uint64_t refused = (uint64_t)63 << 16 | LEMONDARTS_TOO_MANY_ROWS;
-    uint64_t read = (uint64_t)64 << 48 | (uint64_t)16 << 32 | (uint64_t)362 << 16;
-    uint64_t unread = (uint64_t)340 << 16 | LEMONDARTS_BAD_TEXT;
-    uint64_t joined = (uint64_t)21 << 48 | (uint64_t)5 << 32 | (uint64_t)LEMONDARTS_ENFORCED << 16;
-    uint64_t explained = (uint64_t)63 << 16 | LEMONDARTS_DENIED;
+    uint64_t compiled = packed(0, LEMONDARTS_WATCHED, 16, 64);
+    uint64_t fulfilling = packed(0, 0x81, 0, 0);
+    uint64_t denied = packed(LEMONDARTS_DENIED, 7, 0, 0);
+    uint64_t refused = packed(LEMONDARTS_TOO_MANY_ROWS, 63, 0, 0);
+    uint64_t read = packed(0, 362, 16, 64);
+    uint64_t unread = packed(LEMONDARTS_BAD_TEXT, 340, 0, 0);
+    uint64_t joined = packed(0, LEMONDARTS_ENFORCED, 5, 21);
+    uint64_t explained = packed(LEMONDARTS_DENIED, 63, 0, 0);
 
     snprintf(version, sizeof version, "%d.%d.%d", LEMONDARTS_VERSION_MAJOR, LEMONDARTS_VERSION_MINOR, LEMONDARTS_VERSION_PATCH);
     check("the version's text", strcmp(version, LEMONDARTS_VERSION) == 0);
+    check("the version's number, also for the preprocessor", LEMONDARTS_VERSION_NUMBER == 40700u);
+#if LEMONDARTS_VERSION_NUMBER < 40700
+    check("the version's number in #if", 0);
+#endif
 
     check("a compiled table is done", LEMONDARTS_OK(compiled) && LEMONDARTS_NUMBER(compiled) == 0);
     check("its type, actions and rows", LEMONDARTS_VALUE(compiled) == 2 && LEMONDARTS_ACTIONS(compiled) == 16 && LEMONDARTS_ROWS(compiled) == 64);
@@ -60,6 +85,7 @@ int main(void) {
     check("the lengths", LEMONDARTS_AREA == LEMONDARTS_PLACES * LEMONDARTS_TABLE && LEMONDARTS_RECORD == 2 * LEMONDARTS_PLACES
           && LEMONDARTS_TABLE == LEMONDARTS_TABLE_HEADER + LEMONDARTS_MOST_ACTIONS * LEMONDARTS_MOST_ROWS
           && LEMONDARTS_SHEET == LEMONDARTS_SHEET_HEADER + LEMONDARTS_SHEET_ACTION * LEMONDARTS_MOST_ACTIONS + LEMONDARTS_SHEET_NODE * LEMONDARTS_MOST_NODES);
+    once();
     texts();
     return failures > 0;
 }

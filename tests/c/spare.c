@@ -148,10 +148,10 @@ int main(void) {
     too_large(0);
     refused("65 rows", LEMONDARTS_TOO_MANY_ROWS, 2);
     too_large(1);
-    refused("65 rows behind spare nodes", LEMONDARTS_TOO_MANY_ROWS, 5);
+    refused("65 rows after spare nodes", LEMONDARTS_TOO_MANY_ROWS, 5);
     ill_typed();
     refused("an ill-typed node", LEMONDARTS_BAD_TYPE, 1);
     change(2, 3, 1);
-    refused("a wrong field behind an ill-typed node", LEMONDARTS_BAD_FIELD, 2);
+    refused("a wrong field after an ill-typed node", LEMONDARTS_BAD_FIELD, 2);
     return failures > 0;
 }

@@ -51,7 +51,7 @@ int main(void) {
     uint64_t answer = read_text("enforce always\n  after now p0 holds not p1\n", 4, sizeof sheet);
     check("the rule is read", LEMONDARTS_OK(answer) && LEMONDARTS_SHEET_LENGTH(answer) == sizeof expected
           && LEMONDARTS_ACTIONS(answer) == 4 && LEMONDARTS_NODES(answer) == 7);
-    check("its sheet, and nothing behind it", memcmp(sheet, expected, sizeof expected) == 0 && kept(sizeof expected));
+    check("its sheet, and nothing after it", memcmp(sheet, expected, sizeof expected) == 0 && kept(sizeof expected));
     answer = lemondarts_compile(sheet, LEMONDARTS_SHEET_LENGTH(answer), table, sizeof table, work, sizeof work, values, LEMONDARTS_VALUES);
     check("its table", LEMONDARTS_OK(answer) && LEMONDARTS_TABLE_LENGTH(answer) == sizeof rows && memcmp(table, rows, sizeof rows) == 0);
 
@@ -60,6 +60,7 @@ int main(void) {
     refused("watch now p0", 17, sizeof sheet, LEMONDARTS_BAD_COUNTS, 0);
     refused("watch now p0", 0, sizeof sheet, LEMONDARTS_BAD_COUNTS, 0);
     refused("", 4, sizeof sheet, LEMONDARTS_BAD_TEXT, 0);
+    refused("watch\tnow p0", 4, sizeof sheet, LEMONDARTS_BAD_TEXT, 0);
     refused("enforce now p0", 4, sizeof sheet, LEMONDARTS_BAD_TEXT, 1);
     refused("watch now", 4, sizeof sheet, LEMONDARTS_BAD_TEXT, 2);
     refused("watch count 61", 4, sizeof sheet, LEMONDARTS_BAD_TEXT, 2);

@@ -1,19 +1,19 @@
-//! The C calls, with slices for pointers and lengths. A slice is never null, two that are lent to
-//! one call do not overlap, and each is valid for its length: this is all that the header asks for.
-
-use crate::Answer;
+//! The calls of include/lemondarts.h, declared for Rust, each with slices for pointers and lengths. A slice is never null, two
+//! of one call do not overlap, and each is valid for its length: this is all that the header asks for. tests/fuzz and bench
+//! include this file too.
 
 extern "C" {
-    fn lemondarts_load(table: *const u8, table_len: usize) -> u64;
+    fn lemondarts_version() -> u64;
+    fn lemondarts_load(table: *const u8, table_length: usize) -> u64;
     fn lemondarts_compile(
         sheet: *const u8,
-        sheet_len: usize,
+        sheet_length: usize,
         out: *mut u8,
-        out_len: usize,
+        out_length: usize,
         work: *mut u8,
-        work_len: usize,
+        work_length: usize,
         values: *mut u64,
-        values_len: usize,
+        values_length: usize,
     ) -> u64;
     fn lemondarts_join(
         count: usize,
@@ -46,25 +46,41 @@ extern "C" {
         sheet: *mut u8,
         sheet_length: usize,
     ) -> u64;
-    fn lemondarts_new_board(record: *mut u8, record_len: usize, area: *mut u8, area_len: usize) -> u64;
+    fn lemondarts_new_board(record: *mut u8, record_length: usize, area: *mut u8, area_length: usize) -> u64;
     fn lemondarts_put_on(
         record: *mut u8,
-        record_len: usize,
+        record_length: usize,
         area: *mut u8,
-        area_len: usize,
+        area_length: usize,
         place: usize,
         table: *const u8,
-        table_len: usize,
+        table_length: usize,
     ) -> u64;
-    fn lemondarts_take_off(record: *mut u8, record_len: usize, area: *mut u8, area_len: usize, place: usize) -> u64;
-    fn lemondarts_action(record: *mut u8, record_len: usize, area: *const u8, area_len: usize, action: usize) -> u64;
+    fn lemondarts_take_off(
+        record: *mut u8,
+        record_length: usize,
+        area: *mut u8,
+        area_length: usize,
+        place: usize,
+    ) -> u64;
+    fn lemondarts_action(
+        record: *mut u8,
+        record_length: usize,
+        area: *const u8,
+        area_length: usize,
+        action: usize,
+    ) -> u64;
 }
 
-pub fn load(table: &[u8]) -> Answer {
-    unsafe { lemondarts_load(table.as_ptr(), table.len()) }.into()
+pub fn version() -> u64 {
+    unsafe { lemondarts_version() }
 }
 
-pub fn compile(sheet: &[u8], out: &mut [u8], work: &mut [u8], values: &mut [u64]) -> Answer {
+pub fn load(table: &[u8]) -> u64 {
+    unsafe { lemondarts_load(table.as_ptr(), table.len()) }
+}
+
+pub fn compile(sheet: &[u8], out: &mut [u8], work: &mut [u8], values: &mut [u64]) -> u64 {
     unsafe {
         lemondarts_compile(
             sheet.as_ptr(),
@@ -77,10 +93,9 @@ pub fn compile(sheet: &[u8], out: &mut [u8], work: &mut [u8], values: &mut [u64]
             values.len(),
         )
     }
-    .into()
 }
 
-pub fn join(count: usize, tables: &[u8], out: &mut [u8], work: &mut [u8], values: &mut [u64]) -> Answer {
+pub fn join(count: usize, tables: &[u8], out: &mut [u8], work: &mut [u8], values: &mut [u64]) -> u64 {
     unsafe {
         lemondarts_join(
             count,
@@ -94,10 +109,9 @@ pub fn join(count: usize, tables: &[u8], out: &mut [u8], work: &mut [u8], values
             values.len(),
         )
     }
-    .into()
 }
 
-pub fn explain(sheet: &[u8], actions: &[u8], place: &mut [u64], work: &mut [u8], values: &mut [u64]) -> Answer {
+pub fn explain(sheet: &[u8], actions: &[u8], place: &mut [u64], work: &mut [u8], values: &mut [u64]) -> u64 {
     unsafe {
         lemondarts_explain(
             sheet.as_ptr(),
@@ -112,29 +126,43 @@ pub fn explain(sheet: &[u8], actions: &[u8], place: &mut [u64], work: &mut [u8],
             values.len(),
         )
     }
-    .into()
 }
 
-pub fn read_text(text: &[u8], actions: &[u16], sheet: &mut [u8]) -> Answer {
-    let (sheet, sheet_length) = (sheet.as_mut_ptr(), sheet.len());
-    unsafe { lemondarts_read_text(text.as_ptr(), text.len(), actions.as_ptr(), actions.len(), sheet, sheet_length) }
-        .into()
+pub fn read_text(text: &[u8], actions: &[u16], sheet: &mut [u8]) -> u64 {
+    unsafe {
+        lemondarts_read_text(
+            text.as_ptr(),
+            text.len(),
+            actions.as_ptr(),
+            actions.len(),
+            sheet.as_mut_ptr(),
+            sheet.len(),
+        )
+    }
 }
 
-pub fn new_board(record: &mut [u8], area: &mut [u8]) -> Answer {
-    unsafe { lemondarts_new_board(record.as_mut_ptr(), record.len(), area.as_mut_ptr(), area.len()) }.into()
+pub fn new_board(record: &mut [u8], area: &mut [u8]) -> u64 {
+    unsafe { lemondarts_new_board(record.as_mut_ptr(), record.len(), area.as_mut_ptr(), area.len()) }
 }
 
-pub fn put_on(record: &mut [u8], area: &mut [u8], place: usize, table: &[u8]) -> Answer {
-    let (record_len, area_len) = (record.len(), area.len());
-    let (record, area) = (record.as_mut_ptr(), area.as_mut_ptr());
-    unsafe { lemondarts_put_on(record, record_len, area, area_len, place, table.as_ptr(), table.len()) }.into()
+pub fn put_on(record: &mut [u8], area: &mut [u8], place: usize, table: &[u8]) -> u64 {
+    unsafe {
+        lemondarts_put_on(
+            record.as_mut_ptr(),
+            record.len(),
+            area.as_mut_ptr(),
+            area.len(),
+            place,
+            table.as_ptr(),
+            table.len(),
+        )
+    }
 }
 
-pub fn take_off(record: &mut [u8], area: &mut [u8], place: usize) -> Answer {
-    unsafe { lemondarts_take_off(record.as_mut_ptr(), record.len(), area.as_mut_ptr(), area.len(), place) }.into()
+pub fn take_off(record: &mut [u8], area: &mut [u8], place: usize) -> u64 {
+    unsafe { lemondarts_take_off(record.as_mut_ptr(), record.len(), area.as_mut_ptr(), area.len(), place) }
 }
 
-pub fn action(record: &mut [u8], area: &[u8], action: usize) -> Answer {
-    unsafe { lemondarts_action(record.as_mut_ptr(), record.len(), area.as_ptr(), area.len(), action) }.into()
+pub fn action(record: &mut [u8], area: &[u8], action: usize) -> u64 {
+    unsafe { lemondarts_action(record.as_mut_ptr(), record.len(), area.as_ptr(), area.len(), action) }
 }

@@ -26,6 +26,9 @@ const AT_A_NODE: RangeInclusive<u16> = 4..=9;
 /// The refusal of a text that names a word.
 const AT_A_WORD: u16 = 32;
 
+/// The version of the archive that is linked, as one number: 40700 for 4.7.0.
+pub use calls::version;
+
 /// What a table's rule does when it trips.
 #[derive(Clone, Copy, Debug, PartialEq, Eq)]
 pub enum Type {
@@ -69,16 +72,16 @@ impl Table {
 /// Reads a rule typed as text, over these actions: for each the set of propositions that it satisfies. Gives its sheet.
 pub fn read_text(text: &[u8], actions: &[u16]) -> Result<Vec<u8>, Refusal> {
     let mut sheet = vec![0; LONGEST_SHEET];
-    let (length, ..) = calls::read_text(text, actions, &mut sheet).done()?;
+    let (length, ..) = Answer::from(calls::read_text(text, actions, &mut sheet)).done()?;
     sheet.truncate(length as usize);
     Ok(sheet)
 }
 
-/// Compiles a rule sheet. The areas that the call is lent are taken from the heap and given back.
+/// Compiles a rule sheet. The call's buffers are taken from the heap and given back.
 pub fn compile(sheet: &[u8]) -> Result<Table, Refusal> {
     let (mut out, mut work, mut values) = (vec![0; LONGEST_TABLE], vec![0; WORK], vec![0; VALUES]);
     let answer = calls::compile(sheet, &mut out, &mut work, &mut values);
-    Table::told(answer, out)
+    Table::told(answer.into(), out)
 }
 
 /// Joins two to eight enforced tables with one number of actions: the table that denies exactly where at least one of them
@@ -88,7 +91,7 @@ pub fn join(tables: &[&Table]) -> Result<Table, Refusal> {
     let bytes: Vec<u8> = tables.iter().flat_map(|table| table.bytes()).copied().collect();
     let answer = calls::join(tables.len(), &bytes, &mut out, &mut work, &mut values);
     // Refusals 8 and 9 are of the whole: they name no node here.
-    Table::told(answer, out).map_err(|refusal| Refusal { node: None, ..refusal })
+    Table::told(answer.into(), out).map_err(|refusal| Refusal { node: None, ..refusal })
 }
 
 /// The first denied action of a list.
@@ -105,7 +108,7 @@ pub struct Denial {
 /// denial of a board explained, list the actions that were permitted since the rule was put on, and the denied one.
 pub fn explain(sheet: &[u8], actions: &[u8]) -> Result<Option<Denial>, Refusal> {
     let (mut place, mut work, mut values) = ([0; LIST_PLACE], vec![0; WORK], vec![0; VALUES]);
-    match calls::explain(sheet, actions, &mut place, &mut work, &mut values) {
+    match calls::explain(sheet, actions, &mut place, &mut work, &mut values).into() {
         Answer::Done { .. } => Ok(None),
         Answer::Denied { place: node } => Ok(Some(Denial { place: place[0], node })),
         Answer::Refused(refusal) => Err(refusal),
@@ -114,7 +117,7 @@ pub fn explain(sheet: &[u8], actions: &[u8]) -> Result<Option<Denial>, Refusal> 
 
 /// Checks the bytes of a table.
 pub fn load(bytes: &[u8]) -> Result<Table, Refusal> {
-    Table::told(calls::load(bytes), bytes.to_vec())
+    Table::told(calls::load(bytes).into(), bytes.to_vec())
 }
 
 /// Whether an action may be carried out.
@@ -136,7 +139,7 @@ impl Places {
     }
 }
 
-/// A board, with the record and the area that its calls are lent. Nothing else writes to these.
+/// A board, with the record and the area of its calls. Nothing else writes to these.
 #[derive(Clone)]
 pub struct Board {
     record: [u8; RECORD],
@@ -153,24 +156,24 @@ impl Board {
     /// Eight empty places.
     pub fn new() -> Board {
         let mut board = Board { record: [0; RECORD], area: vec![0; AREA].into() };
-        let made = calls::new_board(&mut board.record, &mut board.area);
+        let made = Answer::from(calls::new_board(&mut board.record, &mut board.area));
         made.done().expect("areas of the lengths asked for");
         board
     }
 
     /// Puts a table on an empty place, at its row 0.
     pub fn put_on(&mut self, place: usize, table: &Table) -> Result<(), Refusal> {
-        calls::put_on(&mut self.record, &mut self.area, place, &table.bytes).done().map(|_| ())
+        Answer::from(calls::put_on(&mut self.record, &mut self.area, place, &table.bytes)).done().map(|_| ())
     }
 
     /// Empties a place.
     pub fn take_off(&mut self, place: usize) -> Result<(), Refusal> {
-        calls::take_off(&mut self.record, &mut self.area, place).done().map(|_| ())
+        Answer::from(calls::take_off(&mut self.record, &mut self.area, place)).done().map(|_| ())
     }
 
     /// Asks for an action; a permitted one moves every rule. A refusal is no permission.
     pub fn action(&mut self, action: usize) -> Result<Verdict, Refusal> {
-        match calls::action(&mut self.record, &self.area, action) {
+        match calls::action(&mut self.record, &self.area, action).into() {
             Answer::Done { value, .. } => Ok(Verdict::Permitted(Places(value))),
             Answer::Denied { place } => Ok(Verdict::Denied(place as usize)),
             Answer::Refused(refusal) => Err(refusal),

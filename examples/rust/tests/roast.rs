@@ -1,6 +1,8 @@
 //! The roast prints what examples/roast.c prints; refusals, sheets and tables come through the wrappers whole.
 
-use lemondarts::{compile, explain, join, load, read_text, Answer, Board, Denial, Refusal, Table, Type, Verdict};
+use lemondarts::{
+    compile, explain, join, load, read_text, version, Answer, Board, Denial, Refusal, Table, Type, Verdict,
+};
 use std::process::Command;
 
 #[test]
@@ -8,6 +10,12 @@ fn prints_the_roast() {
     let output = Command::new(env!("CARGO_BIN_EXE_roast")).output().unwrap();
     assert!(output.status.success());
     assert_eq!(String::from_utf8(output.stdout).unwrap(), include_str!("../../roast.txt"));
+}
+
+#[test]
+fn the_archive_is_of_this_version() {
+    let parts = env!("CARGO_PKG_VERSION").split('.').map(|part| part.parse::<u64>().unwrap());
+    assert_eq!(version(), parts.fold(0, |number, part| 100 * number + part));
 }
 
 #[test]

@@ -1,4 +1,4 @@
-//! Writes the corpus: the files stdin and stdout of the programs second_cases, load_cases, board_cases, text_cases,
+//! Writes the corpus: the files stdin and stdout of the programs compiler_cases, load_cases, board_cases, text_cases,
 //! join_cases and explain_cases.
 
 use std::path::Path;

@@ -1,4 +1,4 @@
-//! The house rules of README.md as texts: examples/house/NAME.rule beside NAME.sheet.
+//! The house rules (examples/house) as texts: NAME.rule beside NAME.sheet.
 
 /// A rule's file, and the sheet that means the same.
 pub struct House {
@@ -17,7 +17,7 @@ macro_rules! house {
     };
 }
 
-/// Eight of README.md: the seven that are joined there, and a report.
+/// The seven that are joined, and a report.
 pub const RULES: [House; 8] = [
     house!("no_charge_before_the_tray"),
     house!("drop_between_two_charges"),
@@ -29,7 +29,7 @@ pub const RULES: [House; 8] = [
     house!("report_the_third_drop"),
 ];
 
-/// The ninth of README.md, a wait for something that has no bound.
+/// A wait for something that has no bound.
 pub const WITHIN: House = house!("log_within_three_of_a_charge");
 
 /// The other two of examples/house: one that can be said, and one that cannot, as nothing that is denied makes a drop come.

@@ -106,7 +106,7 @@ fn itself() -> Vec<JoinCase> {
     ]
 }
 
-/// The house rules of README.md that are enforced.
+/// The enforced house rules.
 pub fn house_tables() -> Vec<Vec<u8>> {
     let compiled = RULES.iter().map(|rule| crate::compile(rule.sheet).expect("a house rule compiles"));
     compiled.filter(|table| table[0] == ENFORCED).collect()

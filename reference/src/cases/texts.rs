@@ -146,7 +146,7 @@ fn waits() -> Vec<TextCase> {
     ]
 }
 
-/// The house rules of README.md.
+/// The house rules.
 pub fn house_rules() -> Vec<TextCase> {
     let rule = |house: &house::House| {
         let name = format!("house: {}", house.name);

@@ -138,5 +138,5 @@ pub fn corpus(records: &[Record]) -> Corpus {
         tally(records.iter().map(|record| record.answer[0])),
         tally(kinds),
     );
-    Corpus { program: "second_cases", stdin: write(&blocks), stdout }
+    Corpus { program: "compiler_cases", stdin: write(&blocks), stdout }
 }

@@ -26,7 +26,7 @@ impl Call<'_> {
     }
 }
 
-/// The areas lent to the library, and those that the reference works on.
+/// The buffers that the library is given, and those that the reference works on.
 pub struct Beside {
     input: Lent<u8>,
     actions: Lent<u16>,
@@ -148,7 +148,7 @@ impl Beside {
         self.compare_work(&mut report);
         let written = (answer as u16 == calls::DENIED.into()) as usize;
         if self.place.contents()[written..] != before[written..] {
-            report.differs("place is changed behind its first number, or though nothing is denied");
+            report.differs("place is changed after its first number, or though nothing is denied");
         }
         let numbers = format!("lengths of place, work, values: {lengths:?}");
         (report.close(&[("sheet", sheet), ("list", list)], &numbers), place.first().copied())
@@ -200,7 +200,7 @@ impl Beside {
         let [number, written, ..] = calls::fields(answer);
         let kept = if number == 0 { (written as usize).min(length) } else { 0 };
         if self.out.contents()[kept..] != before[kept..] {
-            report.differs("out is changed behind the sheet, or though it is refused");
+            report.differs("out is changed after the sheet, or though it is refused");
         }
         let numbers = format!("actions: {actions:?}, length of out: {length}, text: \"{}\"", text.escape_ascii());
         (report.close(&[], &numbers), out)

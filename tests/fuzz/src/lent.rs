@@ -1,4 +1,4 @@
-//! Lent areas between guards, so that a write before or behind one is seen.
+//! A caller's buffers between guards, so that a write before or after one is seen.
 
 use reference::generate::Random;
 

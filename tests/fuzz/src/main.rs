@@ -6,6 +6,8 @@ mod beside;
 mod boards;
 mod formulas;
 mod lent;
+#[allow(dead_code)] // the version is not compared
+#[path = "../../../examples/rust/src/calls.rs"]
 mod library;
 mod spare;
 mod waits;

@@ -24,14 +24,14 @@ impl Desk {
         Desk { out: vec![0; LARGEST], work: vec![0; WORK], values: vec![0; VALUES] }
     }
 
-    /// The answer, and the output behind it.
+    /// The answer, and the output after the call.
     pub fn compile(&mut self, sheet: &[u8]) -> (u64, Vec<u8>) {
         self.out.fill(0);
         let answer = library::compile(sheet, &mut self.out, &mut self.work, &mut self.values);
         (answer, self.out.clone())
     }
 
-    /// The answer, and the place behind it.
+    /// The answer, and the place after the call.
     pub fn explain(&mut self, sheet: &[u8], list: &[u8]) -> (u64, u64) {
         let mut place = [u64::MAX];
         let answer = library::explain(sheet, list, &mut place, &mut self.work, &mut self.values);
