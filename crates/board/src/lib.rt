@@ -5,13 +5,13 @@ pub use calls::{new_board, put_on, take_off};
 use places::Board;
 
 // What each call answers. specs/Replies.antt gives the number and values of docs/FORMATS.md, "Refusals", for each case.
-#[derive(Drop)]
+#[derive(Clone, Copy)]
 pub enum Made {
     Board,
     ShortArea,
 }
 
-#[derive(Drop)]
+#[derive(Clone, Copy)]
 pub enum Put {
     On,
     ShortArea,
@@ -23,7 +23,7 @@ pub enum Put {
     OtherActions,
 }
 
-#[derive(Drop)]
+#[derive(Clone, Copy)]
 pub enum Take {
     Off,
     ShortArea,
@@ -33,19 +33,19 @@ pub enum Take {
 }
 
 // An answer, with the board after the call.
-#[derive(Drop)]
+#[derive(Clone, Copy)]
 pub struct NewBoard {
     pub answer: Made,
     pub board: Board,
 }
 
-#[derive(Drop)]
+#[derive(Clone, Copy)]
 pub struct PutOn {
     pub answer: Put,
     pub board: Board,
 }
 
-#[derive(Drop)]
+#[derive(Clone, Copy)]
 pub struct TakenOff {
     pub answer: Take,
     pub board: Board,

@@ -9,7 +9,7 @@ use board_checks::{Asked, ask};
 use places::{Board, with_places};
 
 // What a call answers. specs/Replies.antt gives the number and values of docs/FORMATS.md, "Refusals", for each case.
-#[derive(Drop)]
+#[derive(Clone, Copy)]
 pub enum Act {
     Permitted(u8),
     Denied(usize),
@@ -20,7 +20,7 @@ pub enum Act {
 }
 
 // An answer, with the board after the call.
-#[derive(Drop)]
+#[derive(Clone, Copy)]
 pub struct Acted {
     pub answer: Act,
     pub board: Board,

@@ -8,7 +8,7 @@ use board::{Made, Put, Take};
 use board_actions::Act;
 
 // An answer: its number, and whether it changes the board.
-#[derive(Drop)]
+#[derive(Clone, Copy)]
 pub struct NumberedReply(pub u64, pub bool);
 
 pub fn made_answer(answer: Made) -> NumberedReply

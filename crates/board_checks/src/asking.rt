@@ -6,7 +6,7 @@ use places::{AREA_LENGTH, Board, PLACES, Place};
 use scan::{Found, scan};
 
 // What a call with an action finds: a refusal, in the order 14, 25, 24, 12, or that the action is in the list.
-#[derive(Drop)]
+#[derive(Clone, Copy)]
 pub enum Asked {
     ShortArea,
     Impossible,
@@ -16,7 +16,7 @@ pub enum Asked {
 }
 
 // That, and for an action of the list the places moved by it, and the sets of the places that deny it and that it fulfils, as bits.
-#[derive(Drop)]
+#[derive(Clone, Copy)]
 pub struct Heard {
     pub asked: Asked,
     pub places: [Place; PLACES],

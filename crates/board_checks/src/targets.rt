@@ -5,7 +5,7 @@ use places::{AREA_LENGTH, Board, PLACES, case_at, taken};
 use scan::{Found, impossible, scan};
 
 // What a call finds at the place that it names, in the order 14, 13, 25.
-#[derive(Drop)]
+#[derive(Clone, Copy)]
 pub enum Target {
     ShortArea,
     NoPlace,

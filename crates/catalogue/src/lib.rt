@@ -1,4 +1,6 @@
 // The messages of the program, by their numbers: specs/Catalogue.antt has each by its name.
+#![tactic(auto)]
+
 mod numbers;
 
 ghost use Rattle.messages.specs.Adding.{Adds};

@@ -10,7 +10,7 @@ use syntax::{Fault, Sheet};
 use trace::Mode;
 
 // What the compiler refuses: a sheet with a fault of 1 to 7, or one with a node that is over a limit, 8 or 9.
-#[derive(Drop)]
+#[derive(Clone, Copy)]
 pub enum Refusal {
     Faulty(Fault),
     TooManyValues(usize),
@@ -18,7 +18,7 @@ pub enum Refusal {
 }
 
 // What compiling answers: a table, or that an area is too short, or what is refused.
-#[derive(Drop)]
+#[derive(Clone, Copy)]
 pub enum Compiled {
     Table {
         mode: Mode,
@@ -30,14 +30,14 @@ pub enum Compiled {
 }
 
 // What building a sheet answers: its mode and the number of rows of its policy, where every node's rows stand in their slots; or what is refused.
-#[derive(Drop)]
+#[derive(Clone, Copy)]
 pub enum NodesBuilt {
     Refused(Refusal),
     Rows { mode: Mode, rows: usize },
 }
 
 // The same with the sheet, as far as it was read.
-#[derive(Drop)]
+#[derive(Clone, Copy)]
 pub struct BuiltSheet {
     pub built: NodesBuilt,
     pub sheet: Sheet,

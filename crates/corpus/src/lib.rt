@@ -1,26 +1,28 @@
 // The corpus that the case programs read from standard input, how far they are with it, and the counts that they print. A corpus is the number of its records and then
 // their blocks. A number has 16 bits, low byte first; a block is a number and as many bytes. reference/README.md says which blocks a record has.
+#![tactic(auto)]
+
 ghost use Rattle.std.specs.Prelude.{◌≡◌, ◌+◌, ◌*◌, ◌%◌, ◌^◌, ◌<◌, ◌≤◌, true, false, ◌&&◌, ◌++◌, length, drop, replicate, if◌then◌else◌, slice_index, slice_set};
 ghost use Rattle.io.specs.Counts.{IsPrefixLen};
 ghost use Rattle.corpus.specs.Numbers.{corpus_word};
 ghost use Rattle.corpus.specs.Progress.{Behind};
 
 // A number, or the length of a block: and whether all of its bytes were there.
-#[derive(Drop)]
+#[derive(Clone, Copy)]
 pub struct Read {
     pub whole: bool,
     pub number: usize,
 }
 
 // Whether a record was all there, and whether all on it is as expected.
-#[derive(Drop)]
+#[derive(Clone, Copy)]
 pub struct Ran {
     pub whole: bool,
     pub agreed: bool,
 }
 
 // How far a corpus has been run: the records left and those done, and whether all that was to be there was.
-#[derive(Drop)]
+#[derive(Clone, Copy)]
 pub struct Progress {
     pub left: usize,
     pub done: usize,

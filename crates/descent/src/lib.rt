@@ -4,7 +4,7 @@ mod readers;
 pub use readers::read_rule;
 
 // Progress after a number, and the number.
-#[derive(Drop)]
+#[derive(Clone, Copy)]
 pub struct NumberRead {
     pub progress: u64,
     pub number: u8,

@@ -1,4 +1,6 @@
 // Whether the entries of a table are in their range, by the largest of them.
+#![tactic(auto)]
+
 ghost use Rattle.std.specs.Prelude.{◌≡◌, ℕ, ◌≤◌, ◌<◌, length, get_or};
 ghost use Rattle.base.specs.Build.{Decides};
 ghost use Rattle.table.specs.Table.{EntryFits};

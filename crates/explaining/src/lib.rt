@@ -8,7 +8,7 @@ use compiler::Refusal;
 
 // What explaining answers: no action of the list is denied; or the place of the first denied one, from 0, and the node that is named for it; or a
 // refusal, the compiler's or one of its own.
-#[derive(Drop)]
+#[derive(Clone, Copy)]
 pub enum Explained {
     NoDenial,
     Denied { place: usize, node: usize },

@@ -1,9 +1,11 @@
 // Bytes in fields: what stands between the bytes that are a mark, as lines between newlines. Definitions are in specs/Fields.antt.
+#![tactic(auto)]
+
 ghost use Rattle.std.specs.Prelude.{◌≡◌, ◌+◌, ◌≤◌, length, take};
 ghost use Rattle.fields.specs.Fields.{split_by, between, EndsField, FieldAt};
 
 // Where something stands. It is empty where there is no such thing.
-#[derive(Drop)]
+#[derive(Clone, Copy)]
 pub struct Span {
     pub from: usize,
     pub to: usize,

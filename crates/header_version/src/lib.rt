@@ -1,4 +1,6 @@
 // The version of the calls for C as one number, so that an archive which does not fit its header is found out.
+#![tactic(auto)]
+
 ghost use Rattle.std.specs.Prelude.{◌≡◌};
 ghost use Rattle.header_version.specs.Version.{version_number};
 

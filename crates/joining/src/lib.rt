@@ -5,7 +5,7 @@ mod reading;
 pub use call::join;
 
 // What joining answers: an enforced table, or a refusal.
-#[derive(Drop)]
+#[derive(Clone, Copy)]
 pub enum Joined {
     Table { actions: usize, rows: usize },
     ShortArea,

@@ -10,14 +10,14 @@ use limits::SLOT_LENGTH;
 use table::{Header, is_watched};
 
 // What is found of a table, or of all: where it ends, or the refusal.
-#[derive(Drop)]
+#[derive(Clone, Copy)]
 pub enum Checked {
     Fit(usize),
     Unfit(Joined),
 }
 
 // The number of actions that all have, or that they differ in it.
-#[derive(Drop)]
+#[derive(Clone, Copy)]
 pub enum Agreement {
     One(usize),
     Mixed,

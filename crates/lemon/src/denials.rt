@@ -53,7 +53,7 @@ fn refuse_list(line: &[u8], list: &[u8], names: &[u8], actions: usize) {
 }
 
 // What asking gives: 0 where no action is denied, 255 with the place and the node of a denial, or the number of a refusal with its spot.
-#[derive(Drop)]
+#[derive(Clone, Copy)]
 struct Asked {
     number: usize,
     place: usize,
@@ -113,7 +113,7 @@ fn explain_sheet(sheet: &[u8], line: &[u8], list: &[u8]) {
 
 // What is found of the rules so far: that one was refused, which is told; the first watched one with its line, 0 where none is; that the list has a
 // number that is no action; and the first denial, its place the list's length where there is none.
-#[derive(Drop)]
+#[derive(Clone, Copy)]
 struct Found {
     refused: bool,
     watched_rule: usize,

@@ -10,7 +10,7 @@ use positions::word_of;
 use told_messages::following;
 
 // What is told of a list, and the word that it is told of.
-#[derive(Drop)]
+#[derive(Clone, Copy)]
 struct Told {
     message: usize,
     number: usize,

@@ -86,7 +86,7 @@ fn tell_misfit(file: &[u8], rule: Rule, words: usize, expected: Category, list: 
 }
 
 // What reading a text gives: the length of its sheet; or 0 and a refusal, with what was to come at its spot.
-#[derive(Drop)]
+#[derive(Clone, Copy)]
 struct Outcome {
     length: usize,
     number: usize,

@@ -10,14 +10,14 @@ pub use tokens::{same, token_of};
 pub use words::{pass_blanks, word_end};
 
 // A text and a position in it.
-#[derive(Drop)]
+#[derive(Clone, Copy)]
 pub struct Reader<'a> {
     pub text: &'a [u8],
     pub at: usize,
 }
 
 // The next word: which of the language's it is, and the position behind it; or that there is none.
-#[derive(Drop)]
+#[derive(Clone, Copy)]
 pub enum Next {
     Word(Token, usize),
     Nothing,

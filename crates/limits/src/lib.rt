@@ -1,7 +1,8 @@
 // What bounds a build: the limits on a machine's values and rows, and the lengths of what it works in.
+#![tactic(auto)]
 
 // The most values and rows that a machine may have.
-#[derive(Drop)]
+#[derive(Clone, Copy)]
 pub struct Limits {
     pub values: usize,
     pub rows: usize,

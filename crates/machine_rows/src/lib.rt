@@ -11,7 +11,7 @@ use sizes::build_small;
 use steppers::Stepper;
 
 // What is to be built: which machine, its slot, and the most values and rows that it may have.
-#[derive(Drop)]
+#[derive(Clone, Copy)]
 pub struct Plan {
     pub stepper: Stepper,
     pub slot: usize,
@@ -20,7 +20,7 @@ pub struct Plan {
 }
 
 // What building a machine's rows answers: their number, or the limit that the machine is over.
-#[derive(Drop)]
+#[derive(Clone, Copy)]
 pub enum MachineBuilt {
     Rows(usize),
     TooManyValues,

@@ -1,4 +1,6 @@
 // A call with an output and two work areas: the lengths of what it is lent; and the bytes of a table.
+#![tactic(auto)]
+
 ghost use Rattle.std.specs.Prelude.{◌≡◌, ◌++◌, ◌+◌, ◌≤◌, length, drop};
 ghost use Rattle.base.specs.Build.{Decides};
 ghost use Rattle.table.specs.Answer.{mode_number};

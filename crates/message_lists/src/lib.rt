@@ -1,4 +1,6 @@
 // One of several messages that stand in one text, each with a `|` after it.
+#![tactic(auto)]
+
 ghost use Rattle.std.specs.Prelude.{[], get_or};
 ghost use Rattle.fields.specs.Fields.{split_by};
 ghost use Rattle.messages.specs.Adding.{Adds};

@@ -1,4 +1,6 @@
 // Messages written into a lent area, with the text as a definition: specs/Message.antt. What has no room is cut off (specs/Adding.antt).
+#![tactic(auto)]
+
 mod filling;
 mod numbers;
 mod quoting;

@@ -8,14 +8,14 @@ mod words;
 pub use texts::read_text;
 
 // The line of the language that a word fits, and the number that it says.
-#[derive(Drop)]
+#[derive(Clone, Copy)]
 pub struct Fit {
     pub line: usize,
     pub argument: usize,
 }
 
 // How far a text is read: whether a word did not fit, the words and nodes before that, and how much was to come there.
-#[derive(Drop)]
+#[derive(Clone, Copy)]
 pub struct Reading {
     pub stuck: bool,
     pub words: usize,
@@ -24,7 +24,7 @@ pub struct Reading {
 }
 
 // No refusal (0) with the sheet's length, actions and nodes, or a refusal with its spot.
-#[derive(Drop)]
+#[derive(Clone, Copy)]
 pub struct Answer {
     pub number: usize,
     pub value: usize,

@@ -1,4 +1,6 @@
 // Whether the rows of a table are in the stated numbering.
+#![tactic(auto)]
+
 ghost use Rattle.base.specs.Build.{Decides};
 ghost use Rattle.automaton.specs.Machine.{Numbered};
 ghost use Rattle.table.specs.Table.{RowsFit};

@@ -7,7 +7,7 @@ pub use call::read_text;
 
 // What reading a text answers: a sheet, its length in bytes and its numbers of actions and nodes; or a refusal, 32 with its spot and what was to come
 // there.
-#[derive(Drop)]
+#[derive(Clone, Copy)]
 pub enum TextRead {
     Sheet {
         length: usize,

@@ -12,7 +12,7 @@ pub const LONGEST_TEXT: usize = 1024;
 
 // How far reading has come: the position, and how many words and nodes stand before it; or after how many words it is stuck, and what was to come there.
 // Functions hand it on in one number (specs/Packed.antt).
-#[derive(Drop)]
+#[derive(Clone, Copy)]
 pub enum Progress {
     Going {
         at: usize,
@@ -26,7 +26,7 @@ pub enum Progress {
 }
 
 // The word that comes next, with the progress after it; or there is none, or reading is stuck already.
-#[derive(Drop)]
+#[derive(Clone, Copy)]
 pub enum Taken {
     Word(Token, u64),
     Nothing,

@@ -6,7 +6,7 @@ ghost use Rattle.place_steps.specs.Moving.{MovesBy};
 use places::Case;
 
 // A rule under an action: its next case, whether it denies the action, and whether the action fulfils it.
-#[derive(Drop)]
+#[derive(Clone, Copy)]
 pub struct Stepped(pub Case, pub bool, pub bool);
 
 // A watched rule that trips is fulfilled.

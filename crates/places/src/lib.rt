@@ -1,4 +1,6 @@
 // The places of a board: what each of them holds, and where its table stands in the board's area.
+#![tactic(auto)]
+
 mod area;
 mod cases;
 
@@ -14,7 +16,7 @@ pub const PLACE_LENGTH: usize = LARGEST_TABLE;
 pub const AREA_LENGTH: usize = PLACES * PLACE_LENGTH;
 
 // A place is empty, or holds an enforced rule and its row, or a watched rule and its row, or a watched rule fulfilled.
-#[derive(Drop)]
+#[derive(Clone, Copy)]
 pub enum Case {
     Empty,
     Enforced(u8),
@@ -22,13 +24,13 @@ pub enum Case {
     Fulfilled,
 }
 
-#[derive(Drop)]
+#[derive(Clone, Copy)]
 pub struct Place {
     pub case: Case,
 }
 
 // Only `from_places` and `with_places` build one, so that a field more is added there.
-#[derive(Drop)]
+#[derive(Clone, Copy)]
 pub struct Board {
     pub places: [Place; PLACES],
 }

@@ -1,15 +1,17 @@
 // Temporal policies: their meanings, types and remembered values. Definitions and theorems over the types below.
+#![tactic(auto)]
+
 use trace::Mode;
 
 // How many actions settle a policy at the latest.
-#[derive(Drop)]
+#[derive(Clone, Copy)]
 pub enum Bound {
     Finite(u16),
     Unbounded,
 }
 
 // The type of a policy, or that it has none.
-#[derive(Drop)]
+#[derive(Clone, Copy)]
 pub enum Typing {
     Typed(Mode, Bound),
     Untyped,

@@ -12,7 +12,7 @@ use rule_files::{
 
 // What is found of the rules so far: that one was refused, which is told; the first watched one, its line 0 where none is; that the list has a number
 // that is no action; and the first denial, its place the list's length where there is none, with the rule and where its text begins.
-#[derive(Drop)]
+#[derive(Clone, Copy)]
 struct Found {
     refused: bool,
     watched: Place,
@@ -42,7 +42,7 @@ fn refused() -> Found {
 }
 
 // What asking a rule finds.
-#[derive(Drop)]
+#[derive(Clone, Copy)]
 enum Asked {
     Refused,
     Watched,

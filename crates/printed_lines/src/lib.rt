@@ -1,4 +1,6 @@
 // The lines of a printed text, as defined in specs/Text.antt, written one piece after the other.
+#![tactic(auto)]
+
 ghost use Rattle.std.specs.Prelude.{◌+◌, ◌*◌, ◌≤◌, ◌<◌, length, get_or};
 ghost use Rattle.printed_lines.specs.Text.{mode_word, spaced, counts, entry_text, next_text, entries_text, row_line, row_lines};
 ghost use Rattle.text_writer.specs.Writing.{Appends};

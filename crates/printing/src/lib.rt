@@ -10,7 +10,7 @@ use trace::Mode;
 
 // What printing answers: how many bytes were written; or, with nothing written, that a value is out of its range, or that the text area is too
 // short. specs/Printing.antt gives the number of each refusal.
-#[derive(Drop)]
+#[derive(Clone, Copy)]
 pub enum Printed {
     Written(usize),
     OutOfRange,

@@ -1,4 +1,6 @@
 // The nodes of a sheet that are used, and those that are reached from one through And alone, each as a set of 64 bits.
+#![tactic(auto)]
+
 ghost use Rattle.std.specs.Prelude.{◌≡◌, ℕ, ◌^◌, ◌-◌, ◌≤◌, ◌<◌};
 ghost use Rattle.reached.specs.Reached.{reached_set};
 ghost use Rattle.reached.specs.Parts.{parts_of, InParts, and_parts, parts_by, set_of_parts, part_sets, and_set, PartsEarlier};
@@ -7,7 +9,7 @@ ghost use Rattle.reached.specs.declared.Through.TheVariants.{EveryKind};
 use syntax::{ListedNode, Node};
 
 // The parts of a node.
-#[derive(Drop)]
+#[derive(Clone, Copy)]
 pub enum Parts {
     NoPart,
     OnePart(u8),
@@ -16,7 +18,7 @@ pub enum Parts {
 }
 
 // Which nodes are gone through to their parts.
-#[derive(Drop)]
+#[derive(Clone, Copy)]
 pub enum Through {
     EveryKind,
     AndAlone,

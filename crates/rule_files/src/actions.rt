@@ -8,7 +8,7 @@ use grammar::Token;
 use lexer::{same, token_of};
 
 // How far a list was read: so many actions, and behind them a word that is none, or has the name of one of them; or nothing.
-#[derive(Drop)]
+#[derive(Clone, Copy)]
 pub struct Listed {
     pub count: usize,
     pub from: usize,
@@ -17,7 +17,7 @@ pub struct Listed {
 }
 
 // What a word is: an action's set of propositions, or no action.
-#[derive(Drop)]
+#[derive(Clone, Copy)]
 enum Action {
     Set(u16),
     Wrong,

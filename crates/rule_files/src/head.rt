@@ -7,7 +7,7 @@ use crate::refusals::{refuse_action, refuse_actions};
 use crate::words::find;
 
 // The number of actions, 1 to 16, and where the rules begin; 0 where the line is refused.
-#[derive(Drop)]
+#[derive(Clone, Copy)]
 pub struct Head {
     pub count: usize,
     pub start: usize,

@@ -5,14 +5,14 @@ use crate::words::{find, newlines, pass_blanks, word_behind};
 use lexer::same;
 
 // A rule of a file: its number, from 1, or 0 where it is the only one; and a line of it.
-#[derive(Drop)]
+#[derive(Clone, Copy)]
 pub struct Place {
     pub rule: usize,
     pub line: usize,
 }
 
 // Where a rule ends, whether it is the last one of its file, and its place, with the line on which its text begins.
-#[derive(Drop)]
+#[derive(Clone, Copy)]
 pub struct Part {
     pub to: usize,
     pub last: bool,

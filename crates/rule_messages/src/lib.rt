@@ -10,7 +10,7 @@ pub use reasons::add_misfit;
 pub use told::{add_place, add_refused};
 
 // Why a word does not fit where it stands.
-#[derive(Drop)]
+#[derive(Clone, Copy)]
 pub enum Misfit {
     Missing,
     Separator,

@@ -8,7 +8,7 @@ use rules::{Lowered, RuleAt};
 use steppers::Stepper;
 
 // What building a list answers: the number of rows of the last one, or the first one that is over a limit.
-#[derive(Drop)]
+#[derive(Clone, Copy)]
 pub enum AllBuilt {
     Rows(usize),
     ValuesAt(usize),

@@ -1,4 +1,6 @@
 // The step of a rule on remembered values: one step function for every kind.
+#![tactic(auto)]
+
 mod parts;
 mod sets;
 mod steps;
@@ -7,7 +9,7 @@ pub use parts::part_move;
 pub use steps::{start, step};
 
 // A node's rule over the numbers of its parts. A set of 16 bits says which actions satisfy a formula.
-#[derive(Drop)]
+#[derive(Clone, Copy)]
 pub enum NodeRule {
     Opening(u16),
     Count(u8),
@@ -22,21 +24,21 @@ pub enum NodeRule {
 }
 
 // Where an action leads: a trip, or the next remembered value as a number.
-#[derive(Drop)]
+#[derive(Clone, Copy)]
 pub enum ValueMove {
     Trip,
     Go(u64),
 }
 
 // What a node is lowered to: a rule, whose rows are built; or none, for an action formula and a node that is not used.
-#[derive(Drop)]
+#[derive(Clone, Copy)]
 pub enum Lowered {
     NoRule,
     AsRule(NodeRule),
 }
 
 // The same in an array's element.
-#[derive(Drop)]
+#[derive(Clone, Copy)]
 pub struct RuleAt {
     pub of: Lowered,
 }

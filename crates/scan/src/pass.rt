@@ -9,7 +9,7 @@ use place_steps::step;
 use places::{Board, Case, PLACES, Place, taken};
 
 // What the pass gives: what is known of the board, the places in their next cases, and the two sets of places, as bits.
-#[derive(Drop)]
+#[derive(Clone, Copy)]
 pub struct Scanned {
     pub found: Found,
     pub places: [Place; PLACES],

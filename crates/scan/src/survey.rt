@@ -9,7 +9,7 @@ use places::{Case, place_bytes};
 use table::Header;
 
 // A place: not taken, or its table fits its case and has so many actions, or it cannot be.
-#[derive(Drop)]
+#[derive(Clone, Copy)]
 pub enum Seen {
     Untaken,
     Fits(usize),
@@ -17,7 +17,7 @@ pub enum Seen {
 }
 
 // A board: it cannot be, or no rule is on, or its rules are over so many actions.
-#[derive(Drop)]
+#[derive(Clone, Copy)]
 pub enum Found {
     Impossible,
     Vacant,
@@ -25,7 +25,7 @@ pub enum Found {
 }
 
 // What is read at a place: what check 25 finds there, and the entry of an action in the rule's row, where it is in the list.
-#[derive(Drop)]
+#[derive(Clone, Copy)]
 pub struct PlaceRead {
     pub seen: Seen,
     pub entry: u8,

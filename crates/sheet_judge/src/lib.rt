@@ -7,14 +7,14 @@ mod checks;
 pub use checks::judge;
 
 // What checks 1 to 7 find: a policy of a mode, or the first fault.
-#[derive(Drop)]
+#[derive(Clone, Copy)]
 pub enum SheetFound {
     Policy(Mode),
     NotSound(Fault),
 }
 
 // The same with the sheet and the types of its nodes; beside a fault, those before it.
-#[derive(Drop)]
+#[derive(Clone, Copy)]
 pub struct JudgedSheet {
     pub found: SheetFound,
     pub sheet: Sheet,

@@ -1,4 +1,6 @@
 // The header of a sheet and where its areas lie: checks 1 to 3.
+#![tactic(auto)]
+
 ghost use Rattle.std.specs.Prelude.{◌≡◌, ◌<◌, length};
 ghost use Rattle.sheet_layout.specs.Layout.{length_right, counts_right, areas_right, layout_of};
 
@@ -6,7 +8,7 @@ use base::word;
 use syntax::Fault;
 
 // Where a sheet's areas are, or the first fault of checks 1 to 3.
-#[derive(Drop)]
+#[derive(Clone, Copy)]
 pub enum Layout {
     Laid {
         actions: usize,

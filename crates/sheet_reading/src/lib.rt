@@ -7,21 +7,21 @@ mod reading;
 pub use reading::{read_actions, read_nodes};
 
 // What check 5 finds: the node, or that a part, the argument or an unused field is wrong.
-#[derive(Drop)]
+#[derive(Clone, Copy)]
 pub enum NodeFields {
     Right(Node),
     Wrong,
 }
 
 // What check 4 finds: a known kind, with its fields, or an unknown one.
-#[derive(Drop)]
+#[derive(Clone, Copy)]
 pub enum NodeRead {
     Known(NodeFields),
     UnknownKind,
 }
 
 // The nodes that pass checks 4 and 5, up to the first that does not, and its fault.
-#[derive(Drop)]
+#[derive(Clone, Copy)]
 pub struct NodesRead {
     pub judged: Judged,
     pub nodes: [ListedNode; 64],

@@ -1,4 +1,6 @@
 // Signatures of states: the class of a state and the classes behind its entries, and the search for a class by them.
+#![tactic(auto)]
+
 ghost use Rattle.std.specs.Prelude.{◌≡◌, ◌<◌, length, get_or};
 ghost use Rattle.automaton.specs.Partition.{class_of, ClassFound, Searchable};
 

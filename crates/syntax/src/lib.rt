@@ -1,5 +1,7 @@
 // Rule sheets as syntax: nodes over earlier nodes, the propositions of the actions, types, and faults. Nothing here knows how a sheet is laid
 // out in bytes.
+#![tactic(auto)]
+
 use policy::Bound;
 use trace::Mode;
 
@@ -10,7 +12,7 @@ pub use faults::{fault_number, fault_spot};
 pub use types::{type_at, type_node};
 
 // A node: an action formula (kinds 1 to 6) or a policy (kinds 10 to 23), over the numbers of its parts.
-#[derive(Drop)]
+#[derive(Clone, Copy)]
 pub enum Node {
     True,
     False,
@@ -35,13 +37,13 @@ pub enum Node {
 }
 
 // The same in an array's element.
-#[derive(Drop)]
+#[derive(Clone, Copy)]
 pub struct ListedNode {
     pub node: Node,
 }
 
 // A sheet: the propositions of each action as a set of 16 bits, and the nodes, the last of which is the policy.
-#[derive(Drop)]
+#[derive(Clone, Copy)]
 pub struct Sheet {
     pub actions: usize,
     pub propositions: [u16; 16],
@@ -50,7 +52,7 @@ pub struct Sheet {
 }
 
 // The type of a node. A node that the policy does not use is not typed.
-#[derive(Drop)]
+#[derive(Clone, Copy)]
 pub enum NodeType {
     Unused,
     Formula,
@@ -58,13 +60,13 @@ pub enum NodeType {
 }
 
 // The same in an array's element.
-#[derive(Drop)]
+#[derive(Clone, Copy)]
 pub struct TypedNode {
     pub of: NodeType,
 }
 
 // What typing a node finds: its type, or that check 6 or 7 fails.
-#[derive(Drop)]
+#[derive(Clone, Copy)]
 pub enum TypeFound {
     Fits(NodeType),
     Unfit,
@@ -72,7 +74,7 @@ pub enum TypeFound {
 }
 
 // A fault of checks 1 to 7, with the node where there is one.
-#[derive(Drop)]
+#[derive(Clone, Copy)]
 pub enum Fault {
     Length,
     Counts,
@@ -84,14 +86,14 @@ pub enum Fault {
 }
 
 // What checks find: no fault, or the first one.
-#[derive(Drop)]
+#[derive(Clone, Copy)]
 pub enum Judged {
     Sound,
     Faulty(Fault),
 }
 
 // The types of nodes, and the first fault of checks 6 and 7, where there is one; the types are then those of the nodes before it.
-#[derive(Drop)]
+#[derive(Clone, Copy)]
 pub struct TypedNodes {
     pub judged: Judged,
     pub types: [TypedNode; 64],

@@ -1,5 +1,7 @@
 // Tables: the bytes of a minimal deterministic monitor, the checks on them and what they mean. Definitions and laws; the code of the checks stands in
 // the crates above.
+#![tactic(auto)]
+
 ghost use Rattle.std.specs.Prelude.{◌≡◌};
 ghost use Rattle.base.specs.Build.{Decides};
 ghost use Rattle.table.specs.Answer.{mode_number};
@@ -10,7 +12,7 @@ use trace::Mode;
 pub const LARGEST_TABLE: usize = 1032;
 
 // What a table's header says, where its fields are in their ranges.
-#[derive(Drop)]
+#[derive(Clone, Copy)]
 pub enum Header {
     Fields {
         mode: Mode,
@@ -21,7 +23,7 @@ pub enum Header {
 }
 
 // What the loader answers: an accepted table, or refusal 10 or 11.
-#[derive(Drop)]
+#[derive(Clone, Copy)]
 pub enum Loaded {
     Table {
         mode: Mode,

@@ -1,4 +1,6 @@
 // Bytes and numbers written one after the other into an area. Each function answers the place after what it wrote.
+#![tactic(auto)]
+
 mod bytes;
 mod numbers;
 

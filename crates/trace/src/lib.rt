@@ -1,7 +1,8 @@
 // Sequences of actions and the machines that read them: definitions and laws.
+#![tactic(auto)]
 
 // When a machine trips: an enforced one as its policy becomes violated, a watched one as it becomes satisfied.
-#[derive(Drop)]
+#[derive(Clone, Copy)]
 pub enum Mode {
     Enforced,
     Watched,

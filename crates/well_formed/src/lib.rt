@@ -1,4 +1,6 @@
 // Check 10: the header of a table, its length and its entries.
+#![tactic(auto)]
+
 ghost use Rattle.table.specs.Table.{front_table};
 ghost use Rattle.table.specs.Answer.{HeaderRead, Checked};
 

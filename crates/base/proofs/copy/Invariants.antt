@@ -1,0 +1,14 @@
+-- `base::copy` meets its contract. The loop's invariant: `to` has the elements of `from` below k, and then what was there.
+use mathlib.Core.Path.{refl, ◌∙◌}
+use Prim.Native.Nat.{◌-◌}
+use native.Mathlib.Omega.{arith}
+use lib.ListN.{length, get_or}
+use Rattle.base.proofs.Lists.{build-get_or}
+use Rattle.base.proofs.Stored.{Stored, stored-none, stored_more, stored-end}
+use Rattle.base.proofs.copy.Given as goal
+
+abbrev pub invariant-loop-k : goal.invariant-loop-k
+invariant-loop-k l = Stored (λ j. get_or l.from j 0) (length l.from) l.initial.to l.to l.k
+
+abbrev pub decreases-loop-k : goal.decreases-loop-k
+decreases-loop-k l = length l.from - l.k

@@ -1,0 +1,7 @@
+-- `base::put_word` meets its contract.
+use native.Mathlib.Numerals.{add-one}
+use borrow.Author.Rules.{rules}
+use Rattle.base.proofs.put_word.Goals as goal
+
+pub returns : goal.returns
+returns c = rw (add-one c.args.at)

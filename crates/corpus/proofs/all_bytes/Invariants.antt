@@ -1,0 +1,10 @@
+-- `corpus::all_bytes` meets its contract. The loop's invariant: what was read is this value.
+use Rattle.std.proofs.Common.{◌≡◌, ℕ, ◌-◌, length, arith, rules}
+use Rattle.corpus.proofs.Areas.{Alike, alike-none, alike-more, alike_all}
+use Rattle.corpus.proofs.all_bytes.Given as goal
+
+abbrev pub invariant-loop-k : goal.invariant-loop-k
+invariant-loop-k l = Alike l.area l.byte l.k
+
+abbrev pub decreases-loop-k : goal.decreases-loop-k
+decreases-loop-k l = length l.area - l.k

@@ -1,0 +1,22 @@
+-- `places::area::write_place` meets its contract.
+use mathlib.Core.Path.{◌∙◌, ap}
+use mathlib.Core.List.{◌++◌}
+use Prim.Native.Nat.{ℕ, ◌+◌, ◌-◌}
+use lib.ListN.{length, take, drop, replicate}
+use native.Mathlib.Omega.{arith}
+use Rattle.places.specs.Layout.{place_length}
+use Rattle.places.proofs.Written.{written-part}
+use borrow.Author.Rules.{rules}
+use Rattle.places.proofs.area.write_place.Goals as goal
+
+pub returns : goal.returns
+returns c =
+    let z = c.before.before in
+    let w = z.before.before.before.before in
+    let f = w.before.before in
+    let start = f in
+    let g = start.args in
+    written-part f.start_of_lem.result place_length g.area-1.now g.bytes.now w.copy.new.to z.clear.new.bytes
+    (omega (arith, start.requires.0.whole, start.requires.0.below, f.start_of_lem.ensures)) start.requires.1 w.copy.ensures z.clear.ensures
+    ∙ ap (λ (k : ℕ). take k g.area-1.now ++ ((g.bytes.now ++ replicate (place_length - length g.bytes.now) 0) ++ drop (k + place_length) g.area-1.now))
+    f.start_of_lem.ensures

@@ -1,0 +1,6 @@
+-- `signature::class_behind` meets its contract.
+use borrow.Author.Rules.{rules}
+use Rattle.signatures.proofs.class_behind.Goals as goal
+
+pub returns : goal.returns
+returns c = rw (← c.index.ensures) c.class_of.ensures

@@ -1,0 +1,12 @@
+-- `syntax::types::if_formula` meets its contract.
+use borrow.Author.Rules.{rules}
+use Rattle.syntax.proofs.types.if_formula.Goals as goal
+
+pub returns-in-Unused : goal.returns-in-Unused
+returns-in-Unused c = rw (← c.type_at.ensures, c.in-Unused.is)
+
+pub returns-in-Formula : goal.returns-in-Formula
+returns-in-Formula c = rw (← c.type_at.ensures, c.in-Formula.is)
+
+pub returns-in-Policy : goal.returns-in-Policy
+returns-in-Policy c = rw (← c.type_at.ensures, c.in-Policy.is)

@@ -1,0 +1,6 @@
+-- `syntax::types::type_ignoring` meets its contract.
+use borrow.Author.Rules.{rules}
+use Rattle.syntax.proofs.types.type_ignoring.Goals as goal
+
+pub returns : goal.returns
+returns c = rw c.in-Typed.is
