@@ -1,10 +1,7 @@
 -- The goals of `base::clear_numbers` that the check leaves.
 use mathlib.Core.Path.{refl}
-use Prim.Native.Nat.{◌-◌}
 use native.Mathlib.Omega.{arith}
-use borrow.Author.Rules.{rules}
-use lib.ListN.{length}
-use Rattle.base.proofs.Stored.{Stored, stored-none, stored_more, stored-everywhere}
+use Rattle.base.proofs.Stored.{stored-none, stored_more, stored-everywhere}
 use Rattle.base.proofs.clear_numbers.Goals as goal
 
 pub loop-k-init : goal.loop-k-init

@@ -1,10 +1,7 @@
 -- `base::clear_numbers` meets its contract. The loop's invariant: zeros, and then what was there.
-use mathlib.Core.Path.{refl}
 use Prim.Native.Nat.{◌-◌}
-use native.Mathlib.Omega.{arith}
-use borrow.Author.Rules.{rules}
 use lib.ListN.{length}
-use Rattle.base.proofs.Stored.{Stored, stored-none, stored_more, stored-everywhere}
+use Rattle.base.proofs.Stored.{Stored}
 use Rattle.base.proofs.clear_numbers.Given as goal
 
 abbrev pub invariant-loop-k : goal.invariant-loop-k

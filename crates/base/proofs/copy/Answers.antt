@@ -1,10 +1,8 @@
 -- The goals of `base::copy` that the check leaves.
 use mathlib.Core.Path.{refl, ◌∙◌}
-use Prim.Native.Nat.{◌-◌}
 use native.Mathlib.Omega.{arith}
-use lib.ListN.{length, get_or}
 use Rattle.base.proofs.Lists.{build-get_or}
-use Rattle.base.proofs.Stored.{Stored, stored-none, stored_more, stored-end}
+use Rattle.base.proofs.Stored.{stored-none, stored_more, stored-end}
 use Rattle.base.proofs.copy.Goals as goal
 
 pub loop-k-init : goal.loop-k-init

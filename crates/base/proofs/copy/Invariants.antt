@@ -1,10 +1,7 @@
 -- `base::copy` meets its contract. The loop's invariant: `to` has the elements of `from` below k, and then what was there.
-use mathlib.Core.Path.{refl, ◌∙◌}
 use Prim.Native.Nat.{◌-◌}
-use native.Mathlib.Omega.{arith}
 use lib.ListN.{length, get_or}
-use Rattle.base.proofs.Lists.{build-get_or}
-use Rattle.base.proofs.Stored.{Stored, stored-none, stored_more, stored-end}
+use Rattle.base.proofs.Stored.{Stored}
 use Rattle.base.proofs.copy.Given as goal
 
 abbrev pub invariant-loop-k : goal.invariant-loop-k

@@ -1,9 +1,7 @@
 -- The goals of `base::fill` that the check leaves.
 use mathlib.Core.Path.{refl}
-use Prim.Native.Nat.{◌-◌}
 use native.Mathlib.Omega.{arith}
-use lib.ListN.{length}
-use Rattle.base.proofs.Stored.{Stored, stored-none, stored_more, stored-everywhere}
+use Rattle.base.proofs.Stored.{stored-none, stored_more, stored-everywhere}
 use Rattle.base.proofs.fill.Goals as goal
 
 pub loop-k-init : goal.loop-k-init

@@ -1,9 +1,7 @@
 -- `base::fill` meets its contract. The loop's invariant: the value, and then what was there.
-use mathlib.Core.Path.{refl}
 use Prim.Native.Nat.{◌-◌}
-use native.Mathlib.Omega.{arith}
 use lib.ListN.{length}
-use Rattle.base.proofs.Stored.{Stored, stored-none, stored_more, stored-everywhere}
+use Rattle.base.proofs.Stored.{Stored}
 use Rattle.base.proofs.fill.Given as goal
 
 abbrev pub invariant-loop-k : goal.invariant-loop-k

@@ -1,6 +1,5 @@
 -- `base::put_word` meets its contract.
 use native.Mathlib.Numerals.{add-one}
-use borrow.Author.Rules.{rules}
 use Rattle.base.proofs.put_word.Goals as goal
 
 pub returns : goal.returns

@@ -10,6 +10,6 @@ pub returns : goal.returns
 returns c =
     let k = c.before.before.before.before.before.before in
     let z = k in
-    let a : z.args.actions % 256 ≡ z.args.actions = omega (arith, z.requires.0) in
-    let r : z.args.rows % 256 ≡ z.args.rows = omega (arith, z.requires.1.0) in
-    written-table _ _ _ _ _ _ z.args.entries.now z.args.out-1.now _ _ k.mode_number.ensures a r k.copy.ensures c.copy-2.ensures
+    let a : z.args.actions % 256 ≡ z.args.actions = omega (arith, z.requires.actions_bound) in
+    let r : z.args.rows % 256 ≡ z.args.rows = omega (arith, z.requires.rows_bound.0) in
+    written-table _ _ _ _ _ _ z.args.entries.now z.args.out.now _ _ k.mode_number.ensures a r k.copy.ensures c.copy2.ensures

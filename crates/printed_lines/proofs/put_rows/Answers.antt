@@ -26,19 +26,19 @@ pub loop-row-init : goal.loop-row-init
 loop-row-init c = (appends-none _ _, search rules)
 
 pub overflow_mul-from : goal.overflow_mul-from
-overflow_mul-from c = omega (arith, row_within c.args.actions c.loop-row-test.true, c.requires.1)
+overflow_mul-from c = omega (arith, row_within c.args.actions c.loop-row-test.true, c.requires.actions_in_bounds)
 
 pub overflow_add-to : goal.overflow_add-to
-overflow_add-to c = omega (arith, row_within c.args.actions c.loop-row-test.true, c.requires.1)
+overflow_add-to c = omega (arith, row_within c.args.actions c.loop-row-test.true, c.requires.actions_in_bounds)
 
 pub slice_bounds-put_row-end : goal.slice_bounds-put_row-end
-slice_bounds-put_row-end c = omega (arith, row_within c.args.actions c.loop-row-test.true, c.requires.1)
+slice_bounds-put_row-end c = omega (arith, row_within c.args.actions c.loop-row-test.true, c.requires.actions_in_bounds)
 
 pub put_row-end-requires : goal.put_row-end-requires
 put_row-end-requires c =
     let start = c in
     let at = c.loop-row in
-    omega (arith, at.invariant.0.ends, at.invariant.0.sized, length-rows start.args.actions at.row start.args.entries.now start.requires.0, length-take (at.row * start.args.actions + start.args.actions - at.row * start.args.actions) (drop (at.row * start.args.actions) start.args.entries.now), start.requires)
+    omega (arith, at.invariant.0.ends, at.invariant.0.sized, length-rows start.args.actions at.row start.args.entries.now start.requires.actions_bound, length-take (at.row * start.args.actions + start.args.actions - at.row * start.args.actions) (drop (at.row * start.args.actions) start.args.entries.now), start.requires)
 
 pub loop-row-preserved : goal.loop-row-preserved
 loop-row-preserved c =

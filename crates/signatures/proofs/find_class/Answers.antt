@@ -18,7 +18,7 @@ module _ (z : Start) where
 
 module _ (c : In-rows) where
   abbrev start : Start
-  start = c.before.before.before.before.before.before
+  start = (goal.at.In-rows c).Start
 
   own-within : start.args.s * start.args.actions + start.args.actions ≤ length start.args.next.now
   own-within = state-within start start.args.s start.requires.state
@@ -42,7 +42,7 @@ module _ (c : In-rows) where
     found_at f = record { within = omega arith; here = λ h. rw e f; lowest = λ k h. c.rows.invariant.0 k (omega arith) }
 
 pub overflow_mul-row : goal.overflow_mul-row
-overflow_mul-row c = omega (arith, state-within c.before.before.before.before _ c.requires.state)
+overflow_mul-row c = omega (arith, state-within (goal.at.overflow_mul-row c).Start _ c.requires.state)
 
 pub rows-init : goal.rows-init
 rows-init c =
@@ -51,30 +51,30 @@ rows-init c =
 
 pub rows-preserved-then-class_of-class : goal.rows-preserved-then-class_of-class
 rows-preserved-then-class_of-class c =
-    let r = c.before.before.before in
+    let r = (goal.at.rows-preserved-then-class_of-class c).In-rows in
     next_row r _ refl (λ e. c.if-class_of-class.true (c.class_of.ensures ∙ e.class ∙ sym r.class_of-class.ensures))
 
 pub overflow_mul-first_row : goal.overflow_mul-first_row
-overflow_mul-first_row c = omega (arith, first-within c.before.before.before)
+overflow_mul-first_row c = omega (arith, first-within (goal.at.overflow_mul-first_row c).In-rows)
 
 pub loop-a-init : goal.loop-a-init
 loop-a-init c = (refl, λ k h. absurd (omega arith), omega arith)
 
 pub overflow_add-first_row : goal.overflow_add-first_row
-overflow_add-first_row c = omega (arith, first-within c.before.before.before.before.before)
+overflow_add-first_row c = omega (arith, first-within (goal.at.overflow_add-first_row c).In-rows)
 
 pub class_behind-requires : goal.class_behind-requires
-class_behind-requires c = omega (arith, first-within c.before.before.before.before.before)
+class_behind-requires c = omega (arith, first-within (goal.at.class_behind-requires c).In-rows)
 
 pub overflow_add-row : goal.overflow_add-row
-overflow_add-row c = omega (arith, own-within c.before.before.before.before.before.before)
+overflow_add-row c = omega (arith, own-within (goal.at.overflow_add-row c).In-rows)
 
 pub class_behind-requires-in-loop-a : goal.class_behind-requires-in-loop-a
-class_behind-requires-in-loop-a c = omega (arith, own-within c.before.before.before.before.before.before)
+class_behind-requires-in-loop-a c = omega (arith, own-within (goal.at.class_behind-requires-in-loop-a c).In-rows)
 
 pub rows-preserved : goal.rows-preserved
 rows-preserved c =
-    let r = c.before.before.before.before.before.before.before.before in
+    let r = (goal.at.rows-preserved c).In-rows in
     let v = c.loop-a in
     next_row r v.c v.invariant.0
     (λ e. c.if-class_behind.true (c.class_behind.ensures ∙ e.behind v.a c.loop-a-test.true ∙ sym c.class_behind-in-loop-a.ensures))
@@ -84,7 +84,7 @@ loop-a-preserved c = (c.loop-a.invariant.0, below_more _ _ c.loop-a.invariant.1 
 
 pub returns-in-rows : goal.returns-in-rows
 returns-in-rows c =
-    let r = c.before.before.before.before.before in
+    let r = (goal.at.returns-in-rows c).In-rows in
     let v = c.loop-a in
     found_at r v.c v.invariant.0
     (record {

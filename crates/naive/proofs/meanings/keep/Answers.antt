@@ -23,5 +23,5 @@ returns c =
     let e : p.bit.result % 256 ≡ cond start.args.holds 1 0 = omega (arith, p.bit.ensures.0, p.bit.ensures.1) in (
       truths-stored place p.bit.result start.requires (search rules) p.put.ensures,
       rw (le-ltb _ _ p.if-n-gt63.false, le-ltb _ _ p.if-s-gt2047.false)
-          (p.put.ensures ∙ ap (λ (v : ℕ). set start.args.truths-1.now place v) e),
+          (p.put.ensures ∙ ap (λ (v : ℕ). set start.args.truths.now place v) e),
     )

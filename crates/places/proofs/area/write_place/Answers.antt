@@ -16,7 +16,7 @@ returns c =
     let f = w.before.before in
     let start = f in
     let g = start.args in
-    written-part f.start_of_lem.result place_length g.area-1.now g.bytes.now w.copy.new.to z.clear.new.bytes
-    (omega (arith, start.requires.0.whole, start.requires.0.below, f.start_of_lem.ensures)) start.requires.1 w.copy.ensures z.clear.ensures
-    ∙ ap (λ (k : ℕ). take k g.area-1.now ++ ((g.bytes.now ++ replicate (place_length - length g.bytes.now) 0) ++ drop (k + place_length) g.area-1.now))
+    written-part f.start_of_lem.result place_length g.area.now g.bytes.now w.copy.new.to z.clear.new.bytes
+    (omega (arith, start.requires.within.whole, start.requires.within.below, f.start_of_lem.ensures)) start.requires.bytes_len_bound w.copy.ensures z.clear.ensures
+    ∙ ap (λ (k : ℕ). take k g.area.now ++ ((g.bytes.now ++ replicate (place_length - length g.bytes.now) 0) ++ drop (k + place_length) g.area.now))
     f.start_of_lem.ensures

@@ -15,18 +15,18 @@ returns-in_default c =
 
 -- part a is watched, with bound j
 module _ (c : In-Typed) where
-  watched-a : only_as Watched c.args.s ≡ Typed c.in-Typed.field-0 c.in-Typed.j-1
+  watched-a : only_as Watched c.args.s ≡ Typed c.in-Typed.field-0 c.in-Typed.j
   watched-a = sym c.only.ensures ∙ c.in-Typed.is
 
 pub returns-in_default-only : goal.returns-in_default-only
 returns-in_default-only c =
-    let p = c.before.before.before in
+    let p = (goal.at.returns-in_default-only c).In-Typed in
     let a = p.args in
     ap found (sym (not-after-b a.mode a.s a.t (watched-a p) (sym c.only-2.ensures ∙ c.in_default-only.is)))
 
 pub returns : goal.returns
 returns c =
-    let p = c.before.before.before.before.before in
+    let p = (goal.at.returns c).In-Typed in
     let a = p.args in
     c.found_sum.ensures
     ∙ ap found (sym (after-ab a.mode a.s a.t (watched-a p) (sym c.only-2.ensures ∙ c.in-Typed-only.is)))

@@ -1,5 +1,4 @@
 -- `rules::steps::start` meets its contract: a copy begins at row 0, a wait of no actions is over, and every other value is 0.
--- Assumes nothing.
 use mathlib.Core.Path.{◌≡◌, refl}
 use mathlib.Core.List.{List, [], ◌∷◌}
 use Prim.Native.Nat.{ℕ}
@@ -12,10 +11,9 @@ use Rattle.rules.specs.declared.NodeRule.{NodeRule}
 use Rattle.rules.specs.contracts.NodeRule.{the_type}
 use Rattle.rules.specs.declared.NodeRule.TheVariants.{Opening, Count, Same, Both, Either, Copied, Before, After, Fulfilling, Ignoring}
 use Rattle.rules.specs.Steps.{code_start}
-use Rattle.rules.proofs.steps.start.Statement.{statement}
-use Rattle.rules.proofs.steps.start.Tie as tie
 use Rattle.rules.proofs.steps.start.Reads as reads
 use Rattle.rules.proofs.steps.start.Lts as lts
+use Rattle.rules.proofs.steps.start.Goals as goal
 
 module _ (actions : ℕ) (work : List ℕ) where
   over : (rule : NodeRule) (k a b c : ℕ) → rule ≡ Fulfilling k a b c → k ≡ 0 → 131072 ≡ code_start actions work rule
@@ -36,27 +34,18 @@ module _ (actions : ℕ) (work : List ℕ) where
   others (Fulfilling k a b c) h = absurd (miss (0 ∷ 1 ∷ 2 ∷ 3 ∷ 4 ∷ 6 ∷ 7 ∷ 9 ∷ []) 8 tt h)
   others (Ignoring s a) h = refl
 
-enum_told : tie.Need-enum-told
-enum_told c = search rules
+pub returns-in-Copied : goal.returns-in-Copied
+returns-in-Copied c = rw c.in-Copied.is
 
-enum-known-rule : tie.Need-enum-known-rule
-enum-known-rule c = search rules
+pub returns-then-k-eq0 : goal.returns-then-k-eq0
+returns-then-k-eq0 c =
+    let a = c.args in
+    over a.actions a.work.now a.rule _ _ _ _ c.in-Fulfilling.is c.if-k-eq0.true
 
-returns : tie.Need-returns
-returns c = rw c.enum_told.given.1
+pub returns-else-k-eq0 : goal.returns-else-k-eq0
+returns-else-k-eq0 c =
+    let a = c.args in
+    waits a.actions a.work.now a.rule _ _ _ _ c.in-Fulfilling.is c.if-k-eq0.false
 
-returns-2 : tie.Need-returns-2
-returns-2 c =
-    let a = c.before.before.before.before.args in
-    over a.actions a.work.now a.rule _ _ _ _ c.before.before.rule.given.1 c.if1.true
-
-returns-3 : tie.Need-returns-3
-returns-3 c =
-    let a = c.before.before.before.before.args in
-    waits a.actions a.work.now a.rule _ _ _ _ c.before.before.rule.given.1 c.if1.false
-
-returns-4 : tie.Need-returns-4
-returns-4 c = let a = c.before.args in others a.actions a.work.now a.rule c.match.keys3
-
-pub start_spec : {M : Type 1} → statement M
-start_spec = tie.close (tie.spec enum_told enum-known-rule returns returns-2 returns-3 returns-4)
+pub returns-in_default : goal.returns-in_default
+returns-in_default c = let a = c.args in others a.actions a.work.now a.rule c.in-Copied.keys3
