@@ -1,5 +1,4 @@
 -- `signature::class_behind` meets its contract.
-use borrow.Author.Rules.{rules}
 use Rattle.signatures.proofs.class_behind.Goals as goal
 
 pub returns : goal.returns

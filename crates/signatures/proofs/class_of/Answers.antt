@@ -1,6 +1,5 @@
 -- `signature::class_of` meets its contract.
 use mathlib.Core.Path.{sym}
-use borrow.Author.Rules.{rules}
 use lib.ListN.{get_or-eq_default}
 use Rattle.base.proofs.Lists.{get_or-within}
 use Rattle.signatures.proofs.class_of.Goals as goal

@@ -1,12 +1,11 @@
 -- The goals of `signatures::find_class` that the check leaves.
 use mathlib.Core.Path.{◌≡◌, refl, sym, ◌∙◌}
-use Prim.Native.Nat.{ℕ, ◌+◌, ◌*◌, ◌≤◌, ◌<◌, ◌-◌}
+use Prim.Native.Nat.{ℕ, ◌+◌, ◌*◌, ◌≤◌, ◌<◌}
 use native.Mathlib.Omega.{arith}
 use borrow.Author.Count.{below_more}
-use borrow.Author.Rules.{rules}
 use lib.ListN.{length}
 use Rattle.automaton.specs.Partition.{first_of, SameSignature, ClassFound}
-use Rattle.automaton.proofs.Compared.{behind_of, entries-within}
+use Rattle.automaton.proofs.Compared.{entries-within}
 use Rattle.automaton.proofs.Rising.{none-lower}
 use Rattle.signatures.proofs.find_class.Goals as goal
 use Rattle.signatures.proofs.find_class.Goals.{In-rows, Start}
@@ -32,7 +31,7 @@ module _ (c : In-rows) where
   abbrev Same : ℕ → Type 0
   Same d = SameSignature start.args.actions start.args.next.now start.args.classes.now (first_of start.args.firsts.now d) start.args.s
 
-  -- The inner loop keeps c, so that what it finds is of class c: its first member differs from s, or has its signature.
+  -- What the inner loop finds is of class c: its first member differs from s, or has its signature.
   module _ (d : ℕ) (e : d ≡ c.rows.c) where
     next_row : (Same c.rows.c → ⊥) → ((k : ℕ) → k < d + 1 → Same k → ⊥) × (d + 1 ≤ start.args.count)
     next_row n = (below_more _ _ (λ k h. c.rows.invariant.0 k (omega arith)) (rw e n), omega arith)
@@ -46,8 +45,7 @@ overflow_mul-row c = omega (arith, state-within (goal.at.overflow_mul-row c).Sta
 
 pub rows-init : goal.rows-init
 rows-init c =
-    let z = c in
-    (λ d h. none-lower z.requires d (omega arith), omega (arith, z.requires.begun))
+    (λ d h. none-lower c.requires d (omega arith), omega (arith, c.requires.begun))
 
 pub rows-preserved-then-class_of-class : goal.rows-preserved-then-class_of-class
 rows-preserved-then-class_of-class c =
@@ -58,7 +56,7 @@ pub overflow_mul-first_row : goal.overflow_mul-first_row
 overflow_mul-first_row c = omega (arith, first-within (goal.at.overflow_mul-first_row c).In-rows)
 
 pub loop-a-init : goal.loop-a-init
-loop-a-init c = (refl, λ k h. absurd (omega arith), omega arith)
+loop-a-init c = (λ k h. absurd (omega arith), omega arith)
 
 pub overflow_add-first_row : goal.overflow_add-first_row
 overflow_add-first_row c = omega (arith, first-within (goal.at.overflow_add-first_row c).In-rows)
@@ -76,20 +74,20 @@ pub rows-preserved : goal.rows-preserved
 rows-preserved c =
     let r = (goal.at.rows-preserved c).In-rows in
     let v = c.loop-a in
-    next_row r v.c v.invariant.0
+    next_row r _ refl
     (λ e. c.if-class_behind.true (c.class_behind.ensures ∙ e.behind v.a c.loop-a-test.true ∙ sym c.class_behind-in-loop-a.ensures))
 
 pub loop-a-preserved : goal.loop-a-preserved
-loop-a-preserved c = (c.loop-a.invariant.0, below_more _ _ c.loop-a.invariant.1 (cc), omega arith)
+loop-a-preserved c = (below_more _ _ c.loop-a.invariant.0 (cc), omega arith)
 
 pub returns-in-rows : goal.returns-in-rows
 returns-in-rows c =
     let r = (goal.at.returns-in-rows c).In-rows in
     let v = c.loop-a in
-    found_at r v.c v.invariant.0
+    found_at r _ refl
     (record {
       class = sym c.class_of.ensures ∙ c.if-class_of-class.false ∙ r.class_of-class.ensures;
-      behind = λ k h. v.invariant.1 k (omega arith);
+      behind = λ k h. v.invariant.0 k (omega arith);
     })
 
 pub returns : goal.returns

@@ -1,19 +1,14 @@
 -- `refinement::find_class` meets its contract. The invariant over the first members: none of a class below c has the signature of s. The one over
 -- the actions: the classes behind those below a are the same.
-use mathlib.Core.Path.{◌≡◌, refl, sym, ◌∙◌}
-use Prim.Native.Nat.{ℕ, ◌+◌, ◌*◌, ◌≤◌, ◌<◌, ◌-◌}
-use native.Mathlib.Omega.{arith}
-use borrow.Author.Count.{below_more}
-use borrow.Author.Rules.{rules}
-use lib.ListN.{length}
-use Rattle.automaton.specs.Partition.{first_of, SameSignature, ClassFound}
-use Rattle.automaton.proofs.Compared.{behind_of, entries-within}
-use Rattle.automaton.proofs.Rising.{none-lower}
+use mathlib.Core.Path.{◌≡◌}
+use Prim.Native.Nat.{ℕ, ◌≤◌, ◌<◌, ◌-◌}
+use Rattle.automaton.specs.Partition.{first_of, SameSignature}
+use Rattle.automaton.proofs.Compared.{behind_of}
 use Rattle.signatures.proofs.find_class.Given as goal
 
 abbrev pub invariant-loop-a : goal.invariant-loop-a
 invariant-loop-a l =
-    (l.c ≡ l.initial.c) × ((k : ℕ) → k < l.a → behind_of l.actions l.next l.classes l.first k ≡ behind_of l.actions l.next l.classes l.s k) × (l.a ≤ l.actions)
+    ((k : ℕ) → k < l.a → behind_of l.actions l.next l.classes l.first k ≡ behind_of l.actions l.next l.classes l.s k) × (l.a ≤ l.actions)
 
 abbrev pub decreases-loop-a : goal.decreases-loop-a
 decreases-loop-a l = l.actions - l.a
