@@ -1,11 +1,8 @@
 -- The goals of `printed_lines::put_entries` that the check leaves.
 use mathlib.Core.Path.{◌≡◌}
-use Prim.Native.Nat.{◌-◌, ◌≤◌}
 use native.Mathlib.Numerals.{add-one}
 use native.Mathlib.Omega.{arith}
 use lib.ListN.{length}
-use Rattle.printed_lines.specs.Text.{entries_text}
-use Rattle.text_writer.specs.Writing.{Appends}
 use Rattle.text_writer.proofs.Appending.{appends-none, appends-then}
 use Rattle.printed_lines.proofs.Lengths.{length-entries}
 use borrow.Author.Rules.{rules}
@@ -15,7 +12,7 @@ pub loop-k-init : goal.loop-k-init
 loop-k-init c = (search rules, appends-none _ _)
 
 pub put_next-end-requires : goal.put_next-end-requires
-put_next-end-requires c = record { k_in_bounds = search rules; at_in_bounds = omega (arith, c.loop-k.invariant.1.ends, c.loop-k.invariant.1.sized, length-entries c.args.row.now c.loop-k.k); }
+put_next-end-requires c = record { k_in_bounds = search rules; at_in_bounds = omega (arith, c.loop-k.invariant.1.ends, c.loop-k.invariant.1.sized, length-entries c.args.row.now c.loop-k.k) }
 
 pub loop-k-preserved : goal.loop-k-preserved
 loop-k-preserved c = (search rules, rw (add-one _) (appends-then c.loop-k.invariant.1 c.put_next-end.ensures))

@@ -1,14 +1,8 @@
 -- `printed_lines::put_entries` meets its contract. The loop's invariant: the first k entries are written.
-use mathlib.Core.Path.{◌≡◌}
 use Prim.Native.Nat.{◌-◌, ◌≤◌}
-use native.Mathlib.Numerals.{add-one}
-use native.Mathlib.Omega.{arith}
 use lib.ListN.{length}
 use Rattle.printed_lines.specs.Text.{entries_text}
 use Rattle.text_writer.specs.Writing.{Appends}
-use Rattle.text_writer.proofs.Appending.{appends-none, appends-then}
-use Rattle.printed_lines.proofs.Lengths.{length-entries}
-use borrow.Author.Rules.{rules}
 use Rattle.printed_lines.proofs.put_entries.Given as goal
 
 abbrev pub invariant-loop-k : goal.invariant-loop-k

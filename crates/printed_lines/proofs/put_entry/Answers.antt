@@ -4,7 +4,6 @@ use Rattle.text_writer.proofs.Appending.{appends-as}
 use Rattle.printed_lines.specs.Text.{entry_text}
 use Rattle.printed_lines.proofs.EntryTexts.{trip-entry, row-entry}
 use native.Mathlib.Omega.{arith}
-use borrow.Author.Rules.{rules}
 use Rattle.printed_lines.proofs.put_entry.Goals as goal
 
 pub returns-then-e-eq255 : goal.returns-then-e-eq255

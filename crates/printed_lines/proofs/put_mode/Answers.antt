@@ -2,7 +2,6 @@
 use mathlib.Core.Path.{ap, sym}
 use Rattle.text_writer.proofs.Appending.{appends-as}
 use Rattle.printed_lines.specs.Text.{mode_word}
-use borrow.Author.Rules.{rules}
 use Rattle.printed_lines.proofs.put_mode.Goals as goal
 
 pub returns-in-Enforced : goal.returns-in-Enforced

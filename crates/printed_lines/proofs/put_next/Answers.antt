@@ -2,7 +2,6 @@
 use Rattle.text_writer.proofs.Appending.{appends-then, appends-as}
 use Rattle.printed_lines.proofs.EntryTexts.{first_next, later-next}
 use native.Mathlib.Omega.{arith}
-use borrow.Author.Rules.{rules}
 use Rattle.printed_lines.proofs.put_next.Goals as goal
 
 pub returns-then-k-eq0 : goal.returns-then-k-eq0

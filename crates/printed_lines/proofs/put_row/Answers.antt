@@ -3,7 +3,6 @@ use native.Mathlib.Omega.{arith}
 use lib.ListN.{length}
 use Rattle.text_writer.proofs.Appending.{appends-then}
 use Rattle.printed_lines.proofs.Lengths.{length-entries}
-use borrow.Author.Rules.{rules}
 use Rattle.printed_lines.proofs.put_row.Goals as goal
 
 pub put-requires : goal.put-requires

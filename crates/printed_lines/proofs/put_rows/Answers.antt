@@ -6,8 +6,7 @@ use native.Mathlib.Nat.{suc-mul, mul-le-mul_right}
 use native.Mathlib.Numerals.{add-one}
 use native.Mathlib.Omega.{arith}
 use lib.ListN.{take, drop, length-take}
-use Rattle.printed_lines.specs.Text.{row_line, row_lines}
-use Rattle.text_writer.specs.Writing.{Appends}
+use Rattle.printed_lines.specs.Text.{row_line}
 use Rattle.text_writer.proofs.Appending.{appends-none, appends-then, appends-as}
 use Rattle.printed_lines.proofs.Lengths.{length-rows}
 use borrow.Author.Rules.{rules}

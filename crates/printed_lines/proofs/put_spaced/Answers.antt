@@ -1,6 +1,5 @@
 -- `printed_lines::put_spaced` meets its contract.
 use Rattle.text_writer.proofs.Appending.{appends-then}
-use borrow.Author.Rules.{rules}
 use Rattle.printed_lines.proofs.put_spaced.Goals as goal
 
 pub returns : goal.returns

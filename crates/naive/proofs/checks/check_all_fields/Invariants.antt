@@ -1,6 +1,5 @@
 -- `naive::checks::check_all_fields` meets its contract.
 use Prim.Native.Nat.{◌≤◌, ◌-◌}
-use borrow.Author.Rules.{rules}
 use Rattle.naive.proofs.checks.check_all_fields.Given as goal
 
 abbrev pub invariant-loop-n : goal.invariant-loop-n

@@ -3,7 +3,6 @@ use Prim.Native.Nat.{◌≤◌, ◌-◌}
 use mathlib.Core.Path.{◌≡◌}
 use lib.ListN.{length}
 use Rattle.naive.specs.Truths.{Truths}
-use borrow.Author.Rules.{rules}
 use Rattle.naive.proofs.meanings.evaluate.Given as goal
 
 abbrev pub invariant-loop-n : goal.invariant-loop-n

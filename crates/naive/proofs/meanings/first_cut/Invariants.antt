@@ -1,7 +1,6 @@
 -- `naive::meanings::first_cut` meets its contract.
 use Prim.Native.Nat.{◌≤◌, ◌+◌, ◌-◌}
 use lib.ListN.{length}
-use borrow.Author.Rules.{rules}
 use Rattle.naive.proofs.meanings.first_cut.Given as goal
 
 abbrev pub invariant-loop-cut : goal.invariant-loop-cut

@@ -1,7 +1,6 @@
 -- `naive::meanings::ignoring` meets its contract.
 use Prim.Native.Nat.{◌≤◌, ◌-◌}
 use lib.ListN.{length}
-use borrow.Author.Rules.{rules}
 use Rattle.naive.proofs.meanings.ignoring.Given as goal
 
 abbrev pub invariant-loop-i : goal.invariant-loop-i

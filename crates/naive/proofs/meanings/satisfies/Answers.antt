@@ -1,5 +1,4 @@
 -- `naive::meanings::satisfies` meets its contract.
-use borrow.Author.Rules.{rules}
 use Rattle.naive.proofs.meanings.satisfies.Goals as goal
 
 pub returns : goal.returns

@@ -1,5 +1,4 @@
 -- `naive::meanings::truth` meets its contract.
-use borrow.Author.Rules.{rules}
 use borrow.Author.Tests.{lt-ltb, le-ltb}
 use Rattle.naive.proofs.meanings.truth.Goals as goal
 

@@ -1,5 +1,4 @@
 -- `naive::nodes::is_marked` meets its contract.
-use borrow.Author.Rules.{rules}
 use Rattle.naive.proofs.nodes.is_marked.Goals as goal
 
 pub returns : goal.returns

@@ -1,5 +1,4 @@
 -- `naive::nodes::mark` meets its contract.
-use borrow.Author.Rules.{rules}
 use Rattle.naive.proofs.Laws.{none_more, one_more}
 use Rattle.naive.proofs.nodes.mark.Goals as goal
 

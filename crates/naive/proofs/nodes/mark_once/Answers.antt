@@ -1,9 +1,5 @@
 -- The goals of `naive::nodes::mark_once` that the check leaves.
-use Prim.Native.Nat.{◌≤◌, ◌-◌}
-use mathlib.Core.Path.{◌≡◌}
-use lib.ListN.{length}
 use borrow.Author.Rules.{rules}
-use Rattle.naive.specs.Truths.{MoreMarked}
 use Rattle.naive.proofs.Laws.{none_more, more-marked}
 use Rattle.naive.proofs.nodes.mark_once.Goals as goal
 

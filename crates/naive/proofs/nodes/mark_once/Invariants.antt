@@ -2,9 +2,7 @@
 use Prim.Native.Nat.{◌≤◌, ◌-◌}
 use mathlib.Core.Path.{◌≡◌}
 use lib.ListN.{length}
-use borrow.Author.Rules.{rules}
 use Rattle.naive.specs.Truths.{MoreMarked}
-use Rattle.naive.proofs.Laws.{none_more, more-marked}
 use Rattle.naive.proofs.nodes.mark_once.Given as goal
 
 abbrev pub invariant-loop-n : goal.invariant-loop-n

@@ -1,9 +1,5 @@
 -- The goals of `naive::nodes::mark_used` that the check leaves.
-use Prim.Native.Nat.{◌≤◌, ◌-◌}
-use mathlib.Core.Path.{◌≡◌}
-use lib.ListN.{length}
 use borrow.Author.Rules.{rules}
-use Rattle.naive.specs.Truths.{Marks}
 use Rattle.naive.proofs.Laws.{last-marked, last-stays}
 use Rattle.naive.proofs.nodes.mark_used.Goals as goal
 

@@ -2,9 +2,7 @@
 use Prim.Native.Nat.{◌≤◌, ◌-◌}
 use mathlib.Core.Path.{◌≡◌}
 use lib.ListN.{length}
-use borrow.Author.Rules.{rules}
 use Rattle.naive.specs.Truths.{Marks}
-use Rattle.naive.proofs.Laws.{last-marked, last-stays}
 use Rattle.naive.proofs.nodes.mark_used.Given as goal
 
 abbrev pub invariant-loop-turn : goal.invariant-loop-turn

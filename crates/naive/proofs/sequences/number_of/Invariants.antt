@@ -1,10 +1,7 @@
 -- `naive::sequences::number_of` meets its contract: s is the number of the letters passed.
-use Prim.Native.Nat.{ℕ, ◌≤◌, ◌-◌}
-use mathlib.Core.Path.{◌≡◌, refl, ◌∙◌, ap}
-use native.Mathlib.Numerals.{add-one}
-use native.Mathlib.Omega.{arith}
+use Prim.Native.Nat.{◌≤◌, ◌-◌}
+use mathlib.Core.Path.{◌≡◌}
 use lib.ListN.{length}
-use borrow.Author.Rules.{rules}
 use Rattle.naive.specs.Sequences.{number_to}
 use Rattle.naive.proofs.sequences.number_of.Given as goal
 

@@ -1,6 +1,5 @@
 -- `naive::sequences::parent` meets its contract.
 use native.Mathlib.Nat.{div-le_self}
-use borrow.Author.Rules.{rules}
 use Rattle.naive.proofs.sequences.parent.Goals as goal
 
 pub returns : goal.returns

@@ -2,7 +2,6 @@
 use Prim.Native.Nat.{◌≤◌, ◌-◌}
 use mathlib.Core.Path.{◌≡◌}
 use lib.ListN.{length}
-use borrow.Author.Rules.{rules}
 use Rattle.naive.proofs.verdicts.compare_each.Given as goal
 
 abbrev pub invariant-loop-s : goal.invariant-loop-s

@@ -1,7 +1,6 @@
 -- `naive::verdicts::table_trips` meets its contract.
 use Prim.Native.Nat.{◌≤◌, ◌-◌}
 use lib.ListN.{length}
-use borrow.Author.Rules.{rules}
 use Rattle.naive.proofs.verdicts.table_trips.Given as goal
 
 abbrev pub invariant-loop-i : goal.invariant-loop-i
