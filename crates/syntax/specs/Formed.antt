@@ -1,6 +1,6 @@
 -- What check 5 gives of a node: its parts stand before it, and its argument is in its range.
 -- Assumes nothing.
-use Rattle.std.specs.Prelude.{◌≡◌, ℕ, ◌≤◌, ◌<◌}
+use Rattle.std.specs.Prelude.{ℕ, ◌≤◌, ◌<◌}
 use Rattle.syntax.specs.Nodes.{node_of}
 use Rattle.syntax.specs.Shape.{LeafKind, True, False, Proposition, Count, Fulfilling, Shape, leaf, unary, binary, ternary, shape_of, AllOf}
 use Rattle.syntax.specs.declared.Node.{Node}

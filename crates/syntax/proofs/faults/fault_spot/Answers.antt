@@ -1,5 +1,4 @@
 -- `syntax::faults::fault_spot` meets its contract: a fault of a node has its node.
-use borrow.Author.Rules.{rules}
 use Rattle.syntax.proofs.faults.fault_spot.Goals as goal
 
 pub returns-in-UnknownKindAt : goal.returns-in-UnknownKindAt

@@ -1,8 +1,6 @@
 -- `syntax::types::alike_typed` meets its contract.
 use mathlib.Core.Path.{ap, sym, ◌∙◌}
-use borrow.Author.Rules.{rules}
 use Rattle.policy.specs.declared.Typing.TheVariants.{Typed}
-use Rattle.policy.specs.Typing.{larger}
 use Rattle.syntax.proofs.Modes.{alike, not_alike}
 use Rattle.syntax.proofs.types.alike_typed.Goals as goal
 

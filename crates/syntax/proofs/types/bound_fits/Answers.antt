@@ -1,5 +1,4 @@
 -- `syntax::types::bound_fits` meets its contract.
-use borrow.Author.Rules.{rules}
 use Rattle.syntax.proofs.types.bound_fits.Goals as goal
 
 pub returns-in-Finite : goal.returns-in-Finite

@@ -1,5 +1,4 @@
 -- `syntax::types::found` meets its contract.
-use borrow.Author.Rules.{rules}
 use Rattle.syntax.proofs.types.found.Goals as goal
 
 pub returns-then-bound_fits : goal.returns-then-bound_fits

@@ -1,6 +1,5 @@
 -- `syntax::types::found_after` meets its contract: part a is watched, then part b of the mode, then the sum.
 use mathlib.Core.Path.{◌≡◌, ap, sym, ◌∙◌}
-use borrow.Author.Rules.{rules}
 use Rattle.trace.specs.declared.Mode.TheVariants.{Watched}
 use Rattle.policy.specs.declared.Typing.TheVariants.{Typed}
 use Rattle.syntax.specs.Types.{found, only_as}

@@ -1,6 +1,5 @@
 -- `syntax::types::found_fulfilling` meets its contract: the parts one after the other, then the sum.
 use mathlib.Core.Path.{◌≡◌, ap, sym, ◌∙◌}
-use borrow.Author.Rules.{rules}
 use Rattle.trace.specs.declared.Mode.TheVariants.{Watched, Enforced}
 use Rattle.policy.specs.declared.Typing.TheVariants.{Typed}
 use Rattle.syntax.specs.Types.{found, only_as}

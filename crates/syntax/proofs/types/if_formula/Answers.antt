@@ -1,5 +1,4 @@
 -- `syntax::types::if_formula` meets its contract.
-use borrow.Author.Rules.{rules}
 use Rattle.syntax.proofs.types.if_formula.Goals as goal
 
 pub returns-in-Unused : goal.returns-in-Unused

@@ -1,7 +1,6 @@
 -- `syntax::types::larger` meets its contract.
 use mathlib.Core.Path.{ap}
 use native.Mathlib.Omega.{arith}
-use borrow.Author.Rules.{rules}
 use Rattle.policy.specs.declared.Bound.TheVariants.{Finite}
 use Rattle.syntax.proofs.types.larger.Goals as goal
 

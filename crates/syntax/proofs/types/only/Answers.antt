@@ -1,5 +1,4 @@
 -- `syntax::types::only` meets its contract.
-use borrow.Author.Rules.{rules}
 use Rattle.syntax.proofs.Modes.{either-mode}
 use Rattle.syntax.proofs.types.only.Goals as goal
 

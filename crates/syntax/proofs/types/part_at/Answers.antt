@@ -1,5 +1,4 @@
 -- `syntax::types::part_at` meets its contract.
-use borrow.Author.Rules.{rules}
 use Rattle.syntax.proofs.types.part_at.Goals as goal
 
 pub returns-in-Unused : goal.returns-in-Unused

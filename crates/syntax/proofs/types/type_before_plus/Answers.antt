@@ -1,6 +1,5 @@
 -- `syntax::types::type_before_plus` meets its contract.
 use mathlib.Core.Path.{sym, ◌∙◌}
-use borrow.Author.Rules.{rules}
 use Rattle.trace.specs.declared.Mode.TheVariants.{Enforced}
 use Rattle.policy.specs.declared.Typing.TheVariants.{Typed}
 use Rattle.policy.specs.Typing.{if_enforced}

@@ -1,6 +1,5 @@
 -- `syntax::types::type_eventually` meets its contract.
 use mathlib.Core.Path.{sym, ◌∙◌}
-use borrow.Author.Rules.{rules}
 use Rattle.trace.specs.declared.Mode.TheVariants.{Watched}
 use Rattle.policy.specs.declared.Bound.TheVariants.{Unbounded}
 use Rattle.policy.specs.declared.Typing.TheVariants.{Typed}

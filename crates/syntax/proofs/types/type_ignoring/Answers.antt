@@ -1,5 +1,4 @@
 -- `syntax::types::type_ignoring` meets its contract.
-use borrow.Author.Rules.{rules}
 use Rattle.syntax.proofs.types.type_ignoring.Goals as goal
 
 pub returns : goal.returns

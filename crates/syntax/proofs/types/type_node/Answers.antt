@@ -1,5 +1,4 @@
 -- `syntax::types::type_node` meets its contract: in each arm, what the calls ensure, and which node it is.
-use borrow.Author.Rules.{rules}
 use Rattle.syntax.proofs.types.type_node.Goals as goal
 
 pub returns-in-True : goal.returns-in-True

@@ -1,5 +1,4 @@
 -- `syntax::types::type_not` meets its contract.
-use borrow.Author.Rules.{rules}
 use Rattle.syntax.proofs.types.type_not.Goals as goal
 
 pub returns-in-Watched : goal.returns-in-Watched
