@@ -1,17 +1,15 @@
 -- The states below s split by a number of each, with the class of each number so far.
 -- Assumes nothing.
 use mathlib.Core.Path.{◌≡◌, refl, sym, ap, ◌∙◌}
-use mathlib.Core.Bool.{true, false, cond}
 use mathlib.Core.List.{List}
 use Prim.Native.Nat.{ℕ, ◌+◌, ◌≤◌, ◌<◌}
 use native.Mathlib.Decide.{ℕ_discrete, dec_lt}
 use native.Mathlib.Omega.{arith}
-use lib.Dec.{leb}
 use lib.ListN.{length, get_or, set, replicate, length-set, get_or-replicate}
 use lib.Seq.{get_or-set_same, get_or-set_other}
 use borrow.Author.Tests.{lt-leb, le-leb}
 use Rattle.distances.specs.Distances.{SameNumber, class_for}
-use Rattle.automaton.specs.Partition.{first_of, Partition}
+use Rattle.automaton.specs.Partition.{first_of}
 use Rattle.automaton.proofs.Classes.{Equivalence}
 
 pub number-equivalence : (numbers : List ℕ) → Equivalence (SameNumber numbers)

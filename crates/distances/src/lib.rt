@@ -1,4 +1,6 @@
 // How far each state is from a trip, and the states split by it.
+#![tactic(auto)]
+
 ghost use Rattle.std.specs.Prelude.{◌≡◌, true, ℕ, ◌+◌, ◌*◌, ◌≤◌, ◌<◌, length};
 ghost use Rattle.distances.specs.Distances.{behind_entry, OneFurther, NotBelow, NotAbove, Distances, SameNumber, class_for};
 ghost use Rattle.automaton.specs.Partition.{SplitsTo};
