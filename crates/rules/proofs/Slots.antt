@@ -3,15 +3,14 @@
 -- Assumes nothing.
 use mathlib.Core.Path.{◌≡◌, ap}
 use mathlib.Core.List.{List}
-use Prim.Native.Nat.{ℕ, ◌+◌, ◌*◌, ◌≤◌, ◌<◌}
+use Prim.Native.Nat.{ℕ, ◌≤◌, ◌<◌}
 use native.Mathlib.Omega.{arith}
 use lib.ListN.{get_or}
 use Rattle.automaton.specs.Machine.{transition}
 use Rattle.policy.specs.Parts.{AllParts}
-use Rattle.rules.specs.Codes.{CountInRange, FitRule}
 use Rattle.rules.specs.Rules.{slot_at, part_at, rule_over, machine_rule, Readable}
 use Rattle.rules.specs.declared.NodeRule.{NodeRule}
-use Rattle.rules.proofs.RuleParts.{all_map, all-onto, on-parts-agree, count-on}
+use Rattle.rules.proofs.RuleParts.{all_map, on-parts-agree}
 
 -- a slot whose entries are rows below n or trips
 module _ (work : List ℕ) (i n : ℕ) (few : n ≤ 64)

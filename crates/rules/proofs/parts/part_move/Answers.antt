@@ -1,6 +1,5 @@
 -- `rules::parts::part_move` meets its contract: the mark trips, and any other entry is the next row.
 use mathlib.Core.Path.{sym}
-use borrow.Author.Rules.{rules}
 use Rattle.automaton.proofs.Entries.{mark-trips, other_goes}
 use Rattle.rules.proofs.parts.part_move.Goals as goal
 

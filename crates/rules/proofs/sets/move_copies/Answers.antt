@@ -4,13 +4,12 @@ use Prim.Native.Nat.{ℕ, ◌-◌, ◌<◌}
 use native.Mathlib.Omega.{arith}
 use lib.Bits.{and_le_r}
 use lib.Count.{count_trailing_zeros}
-use borrow.Author.Rules.{rules}
 use Rattle.trace.specs.Trace.{Move, trip, go}
 use Rattle.rules.specs.Rules.{part_at, move_of}
-use Rattle.rules.proofs.Moves.{Moving, row_below, begun, gone, tripped, ended}
+use Rattle.rules.proofs.Moves.{row_below, begun, gone, tripped, ended}
 use Rattle.rules.proofs.Reading.{goes-below, index-fits}
 use Rattle.rules.proofs.sets.move_copies.Goals as goal
-use Rattle.rules.proofs.sets.move_copies.Goals.{In-Go-2, In-Trip, In-loop-rest}
+use Rattle.rules.proofs.sets.move_copies.Goals.{In-Go, In-Trip, In-loop-rest}
 
 -- in a turn: a row is left, the lowest is below 64, and the part moves from it
 module _ (c : In-loop-rest) where
@@ -25,10 +24,10 @@ module _ (c : In-loop-rest) where
       let a = c.args in
       part_at a.actions a.work.now a.i (count_trailing_zeros 64 c.loop-rest.rest) a.action
 
-trips : (c : In-Trip) → move c.before.before.before ≡ trip
+trips : (c : In-Trip) → move (goal.at.In-Trip c).In-loop-rest ≡ trip
 trips c = sym c.part_move.ensures ∙ ap move_of c.in-Trip.is
 
-goes : (c : In-Go-2) → move c.before.before.before ≡ go c.in-Go.next
+goes : (c : In-Go) → move (goal.at.In-Go c).In-loop-rest ≡ go c.in-Go.next
 goes c = sym c.part_move.ensures ∙ ap move_of c.in-Go.is
 
 pub loop-rest-init : goal.loop-rest-init
@@ -50,7 +49,7 @@ returns-in-Trip c =
     sym e
 
 pub with_row-moved-requires : goal.with_row-moved-requires
-with_row-moved-requires c = goes-below c.requires.1 _ _ _ _ (goes (goal.at.with_row-moved-requires c).In-Go-2)
+with_row-moved-requires c = goes-below c.requires.1 _ _ _ _ (goes c)
 
 pub loop-rest-smaller : goal.loop-rest-smaller
 loop-rest-smaller c =
@@ -61,7 +60,7 @@ loop-rest-smaller c =
 pub loop-rest-preserved : goal.loop-rest-preserved
 loop-rest-preserved c =
     let turn = (goal.at.loop-rest-preserved c).In-loop-rest in
-    rw c.with_row-moved.ensures (gone turn.loop-rest.invariant (left turn) (goes (goal.at.loop-rest-preserved c).In-Go-2))
+    rw c.with_row-moved.ensures (gone turn.loop-rest.invariant (left turn) (goes (goal.at.loop-rest-preserved c).In-Go))
 
 pub returns : goal.returns
 returns c = let e = ended c.loop-rest.invariant c.loop-rest-test.false in sym e

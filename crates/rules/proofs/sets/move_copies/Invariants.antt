@@ -1,15 +1,7 @@
 -- `rules::sets::move_copies` meets its contract. The loop's invariant: the rows moved so far and the rows left make up the whole move.
 -- The measure is the set of the rows left.
-use mathlib.Core.Path.{◌≡◌, sym, ◌∙◌, ap}
-use Prim.Native.Nat.{ℕ, ◌-◌, ◌<◌}
-use native.Mathlib.Omega.{arith}
-use lib.Bits.{and_le_r}
-use lib.Count.{count_trailing_zeros}
-use borrow.Author.Rules.{rules}
-use Rattle.trace.specs.Trace.{Move, trip, go}
-use Rattle.rules.specs.Rules.{part_at, move_of}
-use Rattle.rules.proofs.Moves.{Moving, row_below, begun, gone, tripped, ended}
-use Rattle.rules.proofs.Reading.{goes-below, index-fits}
+use Rattle.rules.specs.Rules.{part_at}
+use Rattle.rules.proofs.Moves.{Moving}
 use Rattle.rules.proofs.sets.move_copies.Given as goal
 
 abbrev pub invariant-loop-rest : goal.invariant-loop-rest

@@ -5,7 +5,6 @@ use native.Mathlib.Nat.{one-mul}
 use native.Mathlib.Omega.{arith}
 use lib.Bits.{bit_or}
 use lib.Pow.{shl_exact}
-use borrow.Author.Rules.{rules}
 use Rattle.rules.proofs.sets.with_row.Goals as goal
 
 shifted : (row : ℕ) → row < 64 → (1 * 2 ^ row) % 2 ^ 64 ≡ 2 ^ row

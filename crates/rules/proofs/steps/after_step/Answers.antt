@@ -1,6 +1,5 @@
 -- `rules::steps::after_step` meets its contract: an unmarked value moves a, and a trip of a marks row 0 of b; a marked value moves b.
 use Prim.Native.Nat.{◌%◌}
-use borrow.Author.Rules.{rules}
 use borrow.Author.Tests.{eq-eqb, ne_eqb}
 use Rattle.rules.specs.Rules.{part_at}
 use Rattle.rules.proofs.Stepping.{marked-code}

@@ -1,6 +1,5 @@
 -- `rules::steps::before_step` meets its contract: what is released stays so; b is judged first, and a trip of a then releases it.
 use native.Mathlib.Omega.{arith}
-use borrow.Author.Rules.{rules}
 use borrow.Author.Tests.{eq-eqb, ne_eqb}
 use Rattle.rules.proofs.steps.before_step.Goals as goal
 

@@ -1,6 +1,5 @@
 -- `rules::steps::both_step` meets its contract: the parts' bytes are moved, and the last pair is two trips.
 use native.Mathlib.Omega.{arith}
-use borrow.Author.Rules.{rules}
 use Rattle.rules.proofs.Stepping.{both-trip, both-goes}
 use Rattle.rules.proofs.steps.both_step.Goals as goal
 

@@ -1,6 +1,5 @@
 -- `rules::steps::byte_after` meets its contract: a trip stays, and a row's entry is the next byte.
 use native.Mathlib.Omega.{arith}
-use borrow.Author.Rules.{rules}
 use borrow.Author.Tests.{eq-eqb, ne_eqb}
 use Rattle.rules.proofs.Reading.{index-fits}
 use Rattle.rules.proofs.steps.byte_after.Goals as goal

@@ -1,7 +1,6 @@
 -- `rules::steps::count_step` meets its contract: the actions so far, this one among them, trip when they are k.
 use Prim.Native.Nat.{◌+◌, ◌%◌}
 use native.Mathlib.Omega.{arith}
-use borrow.Author.Rules.{rules}
 use borrow.Author.Tests.{le-leb, lt-leb}
 use Rattle.rules.proofs.steps.count_step.Goals as goal
 

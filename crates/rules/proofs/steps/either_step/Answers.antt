@@ -1,5 +1,4 @@
 -- `rules::steps::either_step` meets its contract: the parts' bytes are moved, and a trip of one is a trip.
-use borrow.Author.Rules.{rules}
 use Rattle.rules.proofs.Stepping.{either_left, either-right, either-goes}
 use Rattle.rules.proofs.steps.either_step.Goals as goal
 

@@ -2,7 +2,6 @@
 -- row 0 of c; after that b or c is moved.
 use Prim.Native.Nat.{◌+◌, ◌%◌}
 use native.Mathlib.Omega.{arith}
-use borrow.Author.Rules.{rules}
 use borrow.Author.Tests.{eq-eqb, ne_eqb, le-leb, lt-leb}
 use Rattle.rules.specs.Rules.{part_at}
 use Rattle.rules.proofs.Stepping.{kept-code, missed-code}

@@ -1,6 +1,5 @@
 -- `rules::steps::ignoring_step` meets its contract: an action of the set leaves the part where it is, and any other moves it.
 use mathlib.Core.Path.{sym, ◌∙◌}
-use borrow.Author.Rules.{rules}
 use Rattle.rules.proofs.Stepping.{plain}
 use Rattle.rules.proofs.steps.ignoring_step.Goals as goal
 

@@ -1,6 +1,5 @@
 -- `rules::steps::marked_move` meets its contract: a trip stays, and a row goes under the mark.
 use native.Mathlib.Omega.{arith}
-use borrow.Author.Rules.{rules}
 use Rattle.rules.proofs.steps.marked_move.Goals as goal
 
 pub returns-in_default : goal.returns-in_default

@@ -1,6 +1,5 @@
 -- `rules::steps::opening_step` meets its contract: a fresh value trips on an action of the set, and any other is spent.
 use mathlib.Core.Path.{◌∙◌, sym}
-use borrow.Author.Rules.{rules}
 use borrow.Author.Tests.{eq-eqb, ne_eqb}
 use Rattle.rules.proofs.steps.opening_step.Goals as goal
 
