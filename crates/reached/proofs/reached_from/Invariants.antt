@@ -1,0 +1,12 @@
+-- `reached::reached_from` meets its contract. The loop's invariant: what is left to do with the set gives the whole set.
+use mathlib.Core.Path.{◌≡◌}
+use Prim.Native.Nat.{suc, ◌≤◌}
+use Rattle.reached.specs.Reached.{spread, reached_set}
+use Rattle.reached.specs.Parts.{part_sets}
+use Rattle.reached.proofs.reached_from.Given as goal
+
+abbrev pub invariant-loop-n : goal.invariant-loop-n
+invariant-loop-n l = (l.n ≤ suc l.from) × (spread (part_sets l.through l.nodes) l.set l.n ≡ reached_set (part_sets l.through l.nodes) l.from)
+
+abbrev pub decreases-loop-n : goal.decreases-loop-n
+decreases-loop-n l = l.n
