@@ -1,5 +1,7 @@
 // A second reading of rule texts, from the language as it is written down. It shares no code with the readers of the library: what is to come stands
 // in a list, and the sheet is laid out from how many nodes are below each.
+#![tactic(auto)]
+
 mod language;
 mod layout;
 mod texts;

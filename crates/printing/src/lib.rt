@@ -1,4 +1,6 @@
 // The text of a table and of a refusal: made in a scratch array, and given where it fits.
+#![tactic(auto)]
+
 ghost use Rattle.std.specs.Prelude.{◌≡◌, ◌*◌, ◌<◌, length, take};
 ghost use Rattle.printed_lines.specs.Text.{table_text, refusal_text};
 ghost use Rattle.text_writer.specs.Writing.{Appends};
