@@ -1,4 +1,6 @@
 // Partition refinement, pass by pass, until a pass finds no class more.
+#![tactic(auto)]
+
 ghost use Rattle.std.specs.Prelude.{◌≡◌, ℕ, length};
 ghost use Rattle.automaton.specs.Machine.{Machine, AlikeStates};
 ghost use Rattle.refinement.specs.Refining.{BeginsWith};
