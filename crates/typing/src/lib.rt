@@ -1,4 +1,6 @@
 // Checks 6 and 7 of the used nodes of a sheet, one by one.
+#![tactic(auto)]
+
 ghost use Rattle.std.specs.Prelude.{◌≡◌, ◌≤◌};
 ghost use Rattle.typing.specs.Typed.{type_nodes, typed_nodes};
 
