@@ -1,4 +1,6 @@
 // The quotient of a machine by its classes.
+#![tactic(auto)]
+
 ghost use Rattle.std.specs.Prelude.{◌≡◌, ◌++◌, ◌*◌, ◌<◌, length, drop};
 ghost use Rattle.automaton.specs.Partition.{first_of};
 ghost use Rattle.automaton.specs.Quotient.{quotient_rows, Divisible};
