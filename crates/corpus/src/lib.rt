@@ -3,9 +3,9 @@
 #![tactic(auto)]
 
 ghost use Rattle.std.specs.Prelude.{◌≡◌, ◌+◌, ◌*◌, ◌%◌, ◌^◌, ◌<◌, ◌≤◌, true, false, ◌&&◌, ◌++◌, length, drop, replicate, if◌then◌else◌, slice_index, slice_set};
-ghost use Rattle.io.specs.Counts.{IsPrefixLen};
 ghost use Rattle.corpus.specs.Numbers.{corpus_word};
 ghost use Rattle.corpus.specs.Progress.{Behind};
+ghost use Rattle.standard_streams.specs.Counts.{IsPrefixLen};
 
 // A number, or the length of a block: and whether all of its bytes were there.
 #[derive(Clone, Copy)]
@@ -81,11 +81,11 @@ fn room_for_number() -> [u8; 2]
 }
 
 // The next number.
-pub fn read_number() -> Read
+pub fn read_number(rt: &impl Input) -> Read
     ensures { result.number < 65536 }
 {
     let mut bytes = room_for_number();
-    let got = io::read_full(0, &mut bytes);
+    let got = standard_streams::read_full(rt, &mut bytes);
     Read {
         whole: got == 2,
         number: number_at(&bytes, 0),
@@ -93,10 +93,10 @@ pub fn read_number() -> Read
 }
 
 // The next block, to the front of `room`. It is not whole where the input ends before it does, or where it is longer than the room.
-pub fn read_block(room: &mut [u8]) -> Read
+pub fn read_block(rt: &impl Input, room: &mut [u8]) -> Read
     ensures { IsPrefixLen result.number room.new }
 {
-    let size = read_number();
+    let size = read_number(rt);
     let asked = size.number;
     if room.len() < asked {
         return Read {
@@ -104,7 +104,7 @@ pub fn read_block(room: &mut [u8]) -> Read
             number: 0,
         };
     }
-    let got = io::read_full(0, &mut room[..asked]);
+    let got = standard_streams::read_full(rt, &mut room[..asked]);
     Read {
         whole: size.whole & (got == asked),
         number: got,
@@ -112,18 +112,18 @@ pub fn read_block(room: &mut [u8]) -> Read
 }
 
 // How many bytes are left to read, two for more.
-fn bytes_left() -> usize
+fn bytes_left(rt: &impl Input) -> usize
     ensures { result ≤ 2 }
 {
     let mut bytes = room_for_number();
-    io::read_full(0, &mut bytes)
+    standard_streams::read_full(rt, &mut bytes)
 }
 
 // Before the first record.
-pub fn begin() -> Progress
+pub fn begin(rt: &impl Input) -> Progress
     ensures { (result.done ≡ 0) × (result.left < 65536) }
 {
-    let records = read_number();
+    let records = read_number(rt);
     Progress {
         left: records.number,
         done: 0,
@@ -257,59 +257,66 @@ pub fn add(counts: &mut [u64], number: usize, more: u64)
 }
 
 // Writes the name of a record on which something disagrees, and answers how many do: 1, or 0 where all agree.
-fn note(agreed: bool, name: &[u8]) -> u64
+fn note(rt: &impl Print, agreed: bool, name: &[u8]) -> u64
     ensures { result ≡ (if agreed then 0 else 1) }
 {
     if agreed {
         return 0;
     }
-    io::write_all(1, b"disagreement: ");
-    io::write_all(1, name);
-    io::write_all(1, b"\n");
+    standard_streams::write_all(rt, b"disagreement: ");
+    standard_streams::write_all(rt, name);
+    standard_streams::write_all(rt, b"\n");
     1
 }
 
 // Counts a record on which something disagrees, at the slot, and writes its name. Answers whether the name and the rest were all there.
-pub fn settle(counts: &mut [u64], slot: usize, named: bool, ran: Ran, name: &[u8]) -> bool
+pub fn settle(
+    rt: &impl Print,
+    counts: &mut [u64],
+    slot: usize,
+    named: bool,
+    ran: Ran,
+    name: &[u8],
+) -> bool
     ensures { (result ≡ (named && ran.whole)) × (counts.new ≡ slice_set counts.old slot ((slice_index counts.old slot + (if ran.agreed then 0 else 1)) % 2 ^ 64)) }
 {
-    add(counts, slot, note(ran.agreed, name));
+    add(counts, slot, note(rt, ran.agreed, name));
     named & ran.whole
 }
 
 // A corpus that was cut off, that had a block longer than its room, or that goes on behind its last record is reported. Answers how many are.
-pub fn end(at: Progress) -> usize
+pub fn end(rt: &(impl Input + Print), at: Progress) -> usize
     ensures { result ≤ 1 }
 {
-    if at.whole & (bytes_left() == 0) {
+    if at.whole & (bytes_left(rt) == 0) {
         return 0;
     }
-    io::write_all(1, b"the corpus is damaged behind these\n");
+    standard_streams::write_all(rt, b"the corpus is damaged behind these\n");
     1
 }
 
 // Writes a count with its number, where it is not 0. Answers how many are written.
-fn show_one(count: u64, number: usize) -> usize
+fn show_one(rt: &impl Print, count: u64, number: usize) -> usize
     ensures { result ≤ 1 }
 {
     if count == 0 {
         return 0;
     }
-    io::write_all(1, b" ");
-    io::print_decimal(1, number as u64);
-    io::write_all(1, b":");
-    io::print_decimal(1, count);
+    standard_streams::write_all(rt, b" ");
+    standard_streams::print_decimal(rt, number as u64);
+    standard_streams::write_all(rt, b":");
+    standard_streams::print_decimal(rt, count);
     1
 }
 
 // Writes each count that is not 0 with its number, and answers how many these are.
-pub fn show(counts: &[u64]) -> usize
+pub fn show(rt: &impl Print, counts: &[u64]) -> usize
     ensures { result ≤ length counts.now }
 {
     let mut shown = 0;
     let mut number = 0;
     while number < counts.len() {
-        shown += show_one(counts[number], number);
+        shown += show_one(rt, counts[number], number);
         number += 1;
     }
     shown

@@ -3,8 +3,5 @@ use Rattle.std.proofs.Common.{sym, rules}
 use lib.Seq.{set_out}
 use Rattle.corpus.proofs.add.Goals as goal
 
-pub returns-then-number-counts : goal.returns-then-number-counts
-returns-then-number-counts c = rw c.wrapping_add_u64.ensures
-
 pub returns-else-number-counts : goal.returns-else-number-counts
 returns-else-number-counts c = let a = c.args in sym (set_out a.counts.now a.number _ (search rules))

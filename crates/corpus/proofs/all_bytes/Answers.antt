@@ -1,6 +1,6 @@
 -- The goals of `corpus::all_bytes` that the check leaves.
-use Rattle.std.proofs.Common.{◌≡◌, ℕ, ◌-◌, length, arith, rules}
-use Rattle.corpus.proofs.Areas.{Alike, alike-none, alike-more, alike_all}
+use Rattle.std.proofs.Common.{◌≡◌, ℕ, arith}
+use Rattle.corpus.proofs.Areas.{alike-none, alike-more, alike_all}
 use Rattle.corpus.proofs.all_bytes.Goals as goal
 
 pub loop-k-init : goal.loop-k-init

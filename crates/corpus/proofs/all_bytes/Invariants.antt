@@ -1,6 +1,6 @@
 -- `corpus::all_bytes` meets its contract. The loop's invariant: what was read is this value.
-use Rattle.std.proofs.Common.{◌≡◌, ℕ, ◌-◌, length, arith, rules}
-use Rattle.corpus.proofs.Areas.{Alike, alike-none, alike-more, alike_all}
+use Rattle.std.proofs.Common.{◌-◌, length}
+use Rattle.corpus.proofs.Areas.{Alike}
 use Rattle.corpus.proofs.all_bytes.Given as goal
 
 abbrev pub invariant-loop-k : goal.invariant-loop-k

@@ -1,5 +1,5 @@
 -- `corpus::behind` meets its contract.
-use Rattle.std.proofs.Common.{arith, rules}
+use Rattle.std.proofs.Common.{arith}
 use Rattle.corpus.proofs.behind.Goals as goal
 
 pub returns-then-whole : goal.returns-then-whole

@@ -1,6 +1,6 @@
 -- `corpus::settle` meets its contract.
-use Rattle.std.proofs.Common.{refl, rules}
+use Rattle.std.proofs.Common.{refl}
 use Rattle.corpus.proofs.settle.Goals as goal
 
 pub returns : goal.returns
-returns c = (refl, rw (← c.note.ensures) c.add.ensures)
+returns g c = (refl, rw (← c.note.ensures) c.add.ensures)

@@ -1,5 +1,5 @@
 -- `corpus::written` meets its contract. The front and what stands behind it are compared apart.
-use Rattle.std.proofs.Common.{◌≡◌, ℕ, ◌-◌, List, ◌++◌, length, take, drop, sym, ◌∙◌, arith, length-drop, take-append-drop, take_all, rules}
+use Rattle.std.proofs.Common.{◌≡◌, ℕ, ◌-◌, List, length, take, drop, sym, ◌∙◌, arith, length-drop, take-append-drop, take_all}
 use Rattle.corpus.proofs.written.Goals as goal
 
 tail : (n : ℕ) (l : List ℕ) → take (length l - n) (drop n l) ≡ drop n l
