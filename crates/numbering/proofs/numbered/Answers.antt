@@ -1,7 +1,6 @@
 -- The goals of `numbering::numbered` that the check leaves.
 use mathlib.Core.Path.{◌≡◌, sym, ◌∙◌}
-use mathlib.Core.Logic.{⊎_elim}
-use Prim.Native.Nat.{◌≤◌, ◌*◌, ◌-◌}
+use Prim.Native.Nat.{◌≤◌, ◌*◌}
 use native.Mathlib.Nat.{mul-le-mul}
 use native.Mathlib.Omega.{arith}
 use lib.ListN.{length, get_or}
@@ -9,7 +8,7 @@ use borrow.Author.Rules.{rules}
 use Rattle.base.proofs.Lists.{get_or-within}
 use Rattle.numbering.proofs.Scan.{Scanned, scan-none, scan-known, scan-trip, scan-new, scan-skips, scan-late, scan-all, scan-some}
 use Rattle.numbering.proofs.numbered.Goals as goal
-use Rattle.numbering.proofs.numbered.Goals.{After-byte-e, After-loop-k, Start}
+use Rattle.numbering.proofs.numbered.Goals.{After-byte-e, After-loop-k, Start, else-e-ne255, then-e-ne255+else-met-e+else-e-met, then-e-ne255+else-met-e+then-e-met+else-met-actions}
 
 pub loop-k-init : goal.loop-k-init
 loop-k-init c = (search rules, scan-none _ _ _ c.requires)
@@ -29,7 +28,7 @@ module _ (c : After-byte-e) where
 
 pub returns-then-met-e : goal.returns-then-met-e
 returns-then-met-e c =
-    let (goal.at.After-byte-e b).After-loop-k = (goal.at.returns-then-met-e c).After-byte-e in
+    let b = (goal.at.returns-then-met-e c).After-byte-e in
     scan-skips _ _ _ b.requires _ _ (scanned b) b.loop-k-test.true (λ e. c.if-e-ne255.true (read b ∙ e))
     (omega (arith, c.if-met-e.true, read b))
 
@@ -38,7 +37,7 @@ overflow_mul-met c = omega (arith, small (goal.at.overflow_mul-met c).After-byte
 
 pub returns-then-met-actions : goal.returns-then-met-actions
 returns-then-met-actions c =
-    let (goal.at.After-byte-e b).After-loop-k = (goal.at.returns-then-met-actions c).After-byte-e in
+    let b = (goal.at.returns-then-met-actions c).After-byte-e in
     scan-late _ _ _ b.requires _ _ (scanned b) b.loop-k-test.true (λ e. c.if-e-ne255.true (read b ∙ e))
     (sym (read b) ∙ c.if-e-met.true) (omega (arith, c.if-met-actions.true))
 
@@ -47,23 +46,21 @@ overflow_add-met c = omega (arith, (scanned (goal.at.overflow_add-met c).After-b
 
 pub loop-k-preserved : goal.loop-k-preserved
 loop-k-preserved c =
-    let (goal.at.After-byte-e b).After-loop-k = (goal.at.loop-k-preserved c).After-byte-e in
+    let b = (goal.at.loop-k-preserved c).After-byte-e in
     let fit = b.requires in (
       search rules,
-      ⊎_elim
-          (λ w.
-          rw w.4
-          (scan-new _ _ _ fit _ _ (scanned b) b.loop-k-test.true (λ e. w.0.taken (read b ∙ e)) (sym (read b) ∙ w.2.taken) (omega (arith, w.3.left))))
-          (⊎_elim
-          (λ w. rw w.3 (scan-known _ _ _ fit _ _ (scanned b) (λ e. w.0.taken (read b ∙ e)) (omega (arith, w.1.left, w.2.left, read b))))
-          (λ w. rw w.1 (scan-trip _ _ _ fit _ _ (scanned b) (sym (read b) ∙ w.0.left))))
-          c.if-e-ne255.branch,
+      elim c.if-e-ne255.branch [
+        | then-e-ne255+else-met-e+then-e-met+else-met-actions w ↦ rw w.met-is
+            (scan-new _ _ _ fit _ _ (scanned b) b.loop-k-test.true (λ e. w.if-e-ne255.true (read b ∙ e)) (sym (read b) ∙ w.if-e-met.true) (omega (arith, w.if-met-actions.false)))
+        | then-e-ne255+else-met-e+else-e-met w ↦ rw w.met-is (scan-known _ _ _ fit _ _ (scanned b) (λ e. w.if-e-ne255.true (read b ∙ e)) (omega (arith, w.if-met-e.false, w.if-e-met.false, read b)))
+        | else-e-ne255 w ↦ rw w.met-is (scan-trip _ _ _ fit _ _ (scanned b) (sym (read b) ∙ w.if-e-ne255.false))
+      ],
     )
 
 -- every entry is read
 module _ (c : After-loop-k) where
   abbrev entry : Start
-  entry = c.before.before.before
+  entry = (goal.at.After-loop-k c).Start
 
   all-scanned : Scanned entry.args.rows entry.args.actions c.loop-k.met (length entry.args.entries.now) entry.args.entries.now
   all-scanned =

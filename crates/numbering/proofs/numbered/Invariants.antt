@@ -1,13 +1,7 @@
 -- `numbering::numbered` meets its contract: the scan of proofs/Scan.antt.
-use mathlib.Core.Path.{◌≡◌, sym, ◌∙◌}
-use mathlib.Core.Logic.{⊎_elim}
-use Prim.Native.Nat.{◌≤◌, ◌*◌, ◌-◌}
-use native.Mathlib.Nat.{mul-le-mul}
-use native.Mathlib.Omega.{arith}
-use lib.ListN.{length, get_or}
-use borrow.Author.Rules.{rules}
-use Rattle.base.proofs.Lists.{get_or-within}
-use Rattle.numbering.proofs.Scan.{Scanned, scan-none, scan-known, scan-trip, scan-new, scan-skips, scan-late, scan-all, scan-some}
+use Prim.Native.Nat.{◌≤◌, ◌-◌}
+use lib.ListN.{length}
+use Rattle.numbering.proofs.Scan.{Scanned}
 use Rattle.numbering.proofs.numbered.Given as goal
 
 abbrev pub invariant-loop-k : goal.invariant-loop-k
