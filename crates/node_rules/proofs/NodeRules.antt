@@ -1,7 +1,7 @@
 -- What the used policy nodes of a sound sheet are lowered to: each to its own rule, which is the policy's over its parts.
 -- Assumes nothing.
 use mathlib.Core.Path.{◌≡◌, refl, sym, ap, ◌∙◌}
-use mathlib.Core.Bool.{Bool, true, false, cond, not}
+use mathlib.Core.Bool.{Bool, true, false, not}
 use mathlib.Core.List.{List}
 use Prim.Native.Nat.{ℕ, ◌≤◌, ◌<◌}
 use native.Mathlib.Omega.{arith}
@@ -14,7 +14,7 @@ use Rattle.trace.specs.declared.Mode.TheVariants.{Watched, Enforced}
 use Rattle.policy.specs.declared.Bound.{Bound}
 use Rattle.policy.specs.declared.Typing.{Typing}
 use Rattle.policy.specs.declared.Typing.TheVariants.{Typed, Untyped}
-use Rattle.policy.specs.Formula.{always-false, holds}
+use Rattle.policy.specs.Formula.{always-false}
 use Rattle.policy.specs.Parts.{AllParts}
 use Rattle.policy.specs.Policy.{Policy as APolicy}
 use Rattle.policy.specs.Rule.{Rule, opening-r, on_parts, on_watched, rule_of}

@@ -1,4 +1,6 @@
 // The rules of a sheet's nodes: formulas become sets of actions, policies rules over their parts.
+#![tactic(auto)]
+
 mod lowering;
 mod sets;
 
