@@ -1,5 +1,4 @@
 -- `well_formed::check` meets its contract: the table at the front is checked, and must be all there is.
-use borrow.Author.Rules.{rules}
 use mathlib.Core.Path.{◌≡◌, subst, sym, ◌∙◌}
 use mathlib.Core.List.{List}
 use Prim.Native.Nat.{ℕ, ◌+◌, ◌*◌}
@@ -38,7 +37,7 @@ pub overflow_add-rows : goal.overflow_add-rows
 overflow_add-rows c = omega (arith, area _ _ _ _ (front c).fields)
 
 pub returns-then-bytes-rows : goal.returns-then-bytes-rows
-returns-then-bytes-rows c = λ h. let whole = h.whole ∙ size c.before.before in omega (arith, c.if-bytes-rows.true)
+returns-then-bytes-rows c = λ h. let whole = h.whole ∙ size (goal.at.returns-then-bytes-rows c).In-Fields in omega (arith, c.if-bytes-rows.true)
 
 pub returns : goal.returns
 returns c = whole (goal.at.returns c).In-Fields (omega (arith, c.if-bytes-rows.false))
