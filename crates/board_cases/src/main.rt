@@ -1,4 +1,6 @@
 // The corpus of calls on a board, made one after the other. Each answer, and the bytes of the board after it, are held to what the corpus expects.
+#![tactic(auto)]
+
 ghost use Rattle.std.specs.Prelude.{◌≡◌, length};
 
 // The counts: answers by number, and in the last slot the calls after which something is not as expected.
@@ -77,11 +79,11 @@ fn as_expected(answer: u64, board: &[u8], expected: &[u8]) -> bool {
 }
 
 // Reads the rest of a record of the corpus, behind its name, makes the call and compares.
-fn run_call(board: &mut [u8], area: &mut [u8], counts: &mut [u64]) -> corpus::Ran {
+fn run_call(rt: &impl Input, board: &mut [u8], area: &mut [u8], counts: &mut [u64]) -> corpus::Ran {
     let mut stated = room_for_call();
     let mut expected = corpus::room_for_name();
-    let given = corpus::read_block(&mut stated);
-    let answered = corpus::read_block(&mut expected);
+    let given = corpus::read_block(rt, &mut stated);
+    let answered = corpus::read_block(rt, &mut expected);
     let g = given.number;
     let e = answered.number;
     if given.whole & answered.whole {
@@ -96,34 +98,39 @@ fn run_call(board: &mut [u8], area: &mut [u8], counts: &mut [u64]) -> corpus::Ra
 }
 
 // Reads a record of the corpus, makes the call and compares. Answers whether all of it was there.
-fn run_record(board: &mut [u8], area: &mut [u8], counts: &mut [u64]) -> bool {
+fn run_record(
+    rt: &(impl Input + Print),
+    board: &mut [u8],
+    area: &mut [u8],
+    counts: &mut [u64],
+) -> bool {
     let mut name = corpus::room_for_name();
-    let named = corpus::read_block(&mut name);
+    let named = corpus::read_block(rt, &mut name);
     let n = named.number;
-    let ran = run_call(board, area, counts);
-    corpus::settle(counts, DISAGREEMENTS, named.whole, ran, &name[0..n])
+    let ran = run_call(rt, board, area, counts);
+    corpus::settle(rt, counts, DISAGREEMENTS, named.whole, ran, &name[0..n])
 }
 
 // Runs the records.
-fn run(counts: &mut [u64]) -> corpus::Progress {
+fn run(rt: &(impl Input + Print), counts: &mut [u64]) -> corpus::Progress {
     let mut board = room_for_board();
     let mut area = room_for_area();
-    let mut at = corpus::begin();
+    let mut at = corpus::begin(rt);
     while 0 < at.left {
-        at = corpus::behind(at, run_record(&mut board, &mut area, counts));
+        at = corpus::behind(at, run_record(rt, &mut board, &mut area, counts));
     }
     at
 }
 
-fn main() {
+fn main(rt: HostRuntime) {
     let mut counts = room_for_counts();
-    let at = run(&mut counts);
-    io::write_all(1, b"calls ");
-    io::print_decimal(1, at.done as u64);
-    io::write_all(1, b"\nanswers");
-    corpus::show(&counts[0..256]);
-    io::write_all(1, b"\ndisagreements ");
-    io::print_decimal(1, counts[256]);
-    io::write_all(1, b"\n");
-    corpus::end(at);
+    let at = run(&rt, &mut counts);
+    standard_streams::write_all(&rt, b"calls ");
+    standard_streams::print_decimal(&rt, at.done as u64);
+    standard_streams::write_all(&rt, b"\nanswers");
+    corpus::show(&rt, &counts[0..256]);
+    standard_streams::write_all(&rt, b"\ndisagreements ");
+    standard_streams::print_decimal(&rt, counts[256]);
+    standard_streams::write_all(&rt, b"\n");
+    corpus::end(&rt, at);
 }

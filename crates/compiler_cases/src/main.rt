@@ -1,5 +1,7 @@
 // The corpus of sheets, given to the compiler and to a second implementation. The compiler's answer and table are held to those that the corpus
 // expects; refusals 1 to 7 to those that the naive checks find; the table to the loader, and to the policy's verdict after every short sequence.
+#![tactic(auto)]
+
 ghost use Rattle.std.specs.Prelude.{◌≡◌, length};
 
 // Slots of the counts: answers by number from 0 (a table), nodes by kind, sequences judged, and sheets on which the two disagree.
@@ -31,7 +33,7 @@ fn room_for_values() -> [u64; 1024]
 // Compiles a sheet with work areas of its own. Where `short` is 1, 2 or 3 the area of the table, of the work or of the values is lent shorter by
 // one than is asked for.
 fn compile(short: usize, sheet: &[u8], out: &mut [u8]) -> u64 {
-    let mut work = io::large_buffer();
+    let mut work = standard_streams::large_buffer();
     let mut values = room_for_values();
     let o = corpus::lent(short == 1, 1031, out.len());
     let w = corpus::lent(short == 2, 65535, 65536);
@@ -112,13 +114,13 @@ fn agrees(short: usize, sheet: &[u8], expected: &[u8], counts: &mut [u64]) -> bo
 }
 
 // Reads the rest of a record, behind its name, and compares.
-fn run_sheet(counts: &mut [u64]) -> corpus::Ran {
+fn run_sheet(rt: &impl Input, counts: &mut [u64]) -> corpus::Ran {
     let mut flag = corpus::room_for_name();
-    let mut sheet = io::large_buffer();
+    let mut sheet = standard_streams::large_buffer();
     let mut expected = room_for_table();
-    let flagged = corpus::read_block(&mut flag);
-    let given = corpus::read_block(&mut sheet);
-    let answered = corpus::read_block(&mut expected);
+    let flagged = corpus::read_block(rt, &mut flag);
+    let given = corpus::read_block(rt, &mut sheet);
+    let answered = corpus::read_block(rt, &mut expected);
     let s = given.number;
     let e = answered.number;
     if flagged.whole & given.whole & answered.whole {
@@ -132,44 +134,44 @@ fn run_sheet(counts: &mut [u64]) -> corpus::Ran {
 }
 
 // Reads a record and compares. Answers whether all of it was there.
-fn run_record(counts: &mut [u64]) -> bool {
+fn run_record(rt: &(impl Input + Print), counts: &mut [u64]) -> bool {
     let mut name = corpus::room_for_name();
-    let named = corpus::read_block(&mut name);
+    let named = corpus::read_block(rt, &mut name);
     let n = named.number;
-    let ran = run_sheet(counts);
-    corpus::settle(counts, DISAGREEMENTS, named.whole, ran, &name[0..n])
+    let ran = run_sheet(rt, counts);
+    corpus::settle(rt, counts, DISAGREEMENTS, named.whole, ran, &name[0..n])
 }
 
 // Runs the records.
-fn run(counts: &mut [u64]) -> corpus::Progress {
-    let mut at = corpus::begin();
+fn run(rt: &(impl Input + Print), counts: &mut [u64]) -> corpus::Progress {
+    let mut at = corpus::begin(rt);
     while 0 < at.left {
-        at = corpus::behind(at, run_record(counts));
+        at = corpus::behind(at, run_record(rt, counts));
     }
     at
 }
 
 // Writes the counts.
-fn report(done: usize, counts: &[u64]) {
+fn report(rt: &impl Print, done: usize, counts: &[u64]) {
     if counts.len() < 50 {
         return;
     }
-    io::write_all(1, b"sheets ");
-    io::print_decimal(1, done as u64);
-    io::write_all(1, b"\nanswers");
-    corpus::show(&counts[0..16]);
-    io::write_all(1, b"\nkinds");
-    corpus::show(&counts[16..48]);
-    io::write_all(1, b"\nsequences ");
-    io::print_decimal(1, counts[48]);
-    io::write_all(1, b"\ndisagreements ");
-    io::print_decimal(1, counts[49]);
-    io::write_all(1, b"\n");
+    standard_streams::write_all(rt, b"sheets ");
+    standard_streams::print_decimal(rt, done as u64);
+    standard_streams::write_all(rt, b"\nanswers");
+    corpus::show(rt, &counts[0..16]);
+    standard_streams::write_all(rt, b"\nkinds");
+    corpus::show(rt, &counts[16..48]);
+    standard_streams::write_all(rt, b"\nsequences ");
+    standard_streams::print_decimal(rt, counts[48]);
+    standard_streams::write_all(rt, b"\ndisagreements ");
+    standard_streams::print_decimal(rt, counts[49]);
+    standard_streams::write_all(rt, b"\n");
 }
 
-fn main() {
+fn main(rt: HostRuntime) {
     let mut counts = room_for_counts();
-    let at = run(&mut counts);
-    report(at.done, &counts);
-    corpus::end(at);
+    let at = run(&rt, &mut counts);
+    report(&rt, at.done, &counts);
+    corpus::end(&rt, at);
 }

@@ -1,5 +1,7 @@
 // The corpus of lists of actions, given to the call for C that explains. The answer, the place list and both work areas are held to what the corpus
 // expects.
+#![tactic(auto)]
+
 ghost use Rattle.std.specs.Prelude.{◌≡◌, ◌≤◌, length};
 
 // The counts: answers by number, and in the last slot the lists on which something is not as expected.
@@ -92,11 +94,11 @@ fn compare(
 }
 
 // Reads the actions of a record to the list behind so many others, and answers how many there are in all.
-fn read_list(list: &mut [u8], before: usize) -> corpus::Read
+fn read_list(rt: &impl Input, list: &mut [u8], before: usize) -> corpus::Read
     requires { before ≤ length list.old }
     ensures { result.number ≤ length list.new }
 {
-    let rest = corpus::read_block(&mut list[before..]);
+    let rest = corpus::read_block(rt, &mut list[before..]);
     corpus::Read {
         whole: rest.whole,
         number: before + rest.number,
@@ -104,15 +106,15 @@ fn read_list(list: &mut [u8], before: usize) -> corpus::Read
 }
 
 // Reads the rest of a record, behind the block that says what is lent, and compares. So many times the first action stands before the others.
-fn run_list(short: usize, before: usize, counts: &mut [u64]) -> corpus::Ran
+fn run_list(rt: &impl Input, short: usize, before: usize, counts: &mut [u64]) -> corpus::Ran
     requires { before ≤ 65535 }
 {
     let mut sheet = room_for_sheet();
     let mut list = room_for_list();
     let mut expected = corpus::room_for_name();
-    let given = corpus::read_block(&mut sheet);
-    let listed = read_list(&mut list, before);
-    let answered = corpus::read_block(&mut expected);
+    let given = corpus::read_block(rt, &mut sheet);
+    let listed = read_list(rt, &mut list, before);
+    let answered = corpus::read_block(rt, &mut expected);
     let s = given.number;
     let l = listed.number;
     let e = answered.number;
@@ -123,35 +125,40 @@ fn run_list(short: usize, before: usize, counts: &mut [u64]) -> corpus::Ran
 }
 
 // Reads a record and compares. Answers whether all of it was there.
-fn run_record(counts: &mut [u64]) -> bool {
+fn run_record(rt: &(impl Input + Print), counts: &mut [u64]) -> bool {
     let mut name = corpus::room_for_name();
     let mut lent = corpus::room_for_name();
-    let named = corpus::read_block(&mut name);
-    let called = corpus::read_block(&mut lent);
+    let named = corpus::read_block(rt, &mut name);
+    let called = corpus::read_block(rt, &mut lent);
     let n = named.number;
-    let ran = run_list(corpus::at(&lent, 0), corpus::number_at(&lent, 1), counts);
+    let ran = run_list(
+        rt,
+        corpus::at(&lent, 0),
+        corpus::number_at(&lent, 1),
+        counts,
+    );
     let whole = named.whole & called.whole & (called.number == 3);
-    corpus::settle(counts, DISAGREEMENTS, whole, ran, &name[0..n])
+    corpus::settle(rt, counts, DISAGREEMENTS, whole, ran, &name[0..n])
 }
 
 // Runs the records.
-fn run(counts: &mut [u64]) -> corpus::Progress {
-    let mut at = corpus::begin();
+fn run(rt: &(impl Input + Print), counts: &mut [u64]) -> corpus::Progress {
+    let mut at = corpus::begin(rt);
     while 0 < at.left {
-        at = corpus::behind(at, run_record(counts));
+        at = corpus::behind(at, run_record(rt, counts));
     }
     at
 }
 
-fn main() {
+fn main(rt: HostRuntime) {
     let mut counts = room_for_counts();
-    let at = run(&mut counts);
-    io::write_all(1, b"lists ");
-    io::print_decimal(1, at.done as u64);
-    io::write_all(1, b"\nanswers");
-    corpus::show(&counts[0..256]);
-    io::write_all(1, b"\ndisagreements ");
-    io::print_decimal(1, counts[256]);
-    io::write_all(1, b"\n");
-    corpus::end(at);
+    let at = run(&rt, &mut counts);
+    standard_streams::write_all(&rt, b"lists ");
+    standard_streams::print_decimal(&rt, at.done as u64);
+    standard_streams::write_all(&rt, b"\nanswers");
+    corpus::show(&rt, &counts[0..256]);
+    standard_streams::write_all(&rt, b"\ndisagreements ");
+    standard_streams::print_decimal(&rt, counts[256]);
+    standard_streams::write_all(&rt, b"\n");
+    corpus::end(&rt, at);
 }

@@ -1,4 +1,6 @@
 // The corpus of joins, given to the call for C. The answer, each byte of the output and both work areas are held to what the corpus expects.
+#![tactic(auto)]
+
 ghost use Rattle.std.specs.Prelude.{◌≡◌, ◌≤◌, length};
 
 // The counts: answers by number, and in the last slot the joins on which something is not as expected.
@@ -79,13 +81,13 @@ fn compare(
 }
 
 // Reads the rest of a record, behind its name, and compares.
-fn run_join(counts: &mut [u64]) -> corpus::Ran {
+fn run_join(rt: &impl Input, counts: &mut [u64]) -> corpus::Ran {
     let mut lent = corpus::room_for_name();
     let mut tables = room_for_tables();
     let mut expected = room_for_table();
-    let called = corpus::read_block(&mut lent);
-    let given = corpus::read_block(&mut tables);
-    let answered = corpus::read_block(&mut expected);
+    let called = corpus::read_block(rt, &mut lent);
+    let given = corpus::read_block(rt, &mut tables);
+    let answered = corpus::read_block(rt, &mut expected);
     let t = given.number;
     let e = answered.number;
     if called.whole & given.whole & answered.whole & (called.number == 3) {
@@ -101,32 +103,32 @@ fn run_join(counts: &mut [u64]) -> corpus::Ran {
 }
 
 // Reads a record and compares. Answers whether all of it was there.
-fn run_record(counts: &mut [u64]) -> bool {
+fn run_record(rt: &(impl Input + Print), counts: &mut [u64]) -> bool {
     let mut name = corpus::room_for_name();
-    let named = corpus::read_block(&mut name);
+    let named = corpus::read_block(rt, &mut name);
     let n = named.number;
-    let ran = run_join(counts);
-    corpus::settle(counts, DISAGREEMENTS, named.whole, ran, &name[0..n])
+    let ran = run_join(rt, counts);
+    corpus::settle(rt, counts, DISAGREEMENTS, named.whole, ran, &name[0..n])
 }
 
 // Runs the records.
-fn run(counts: &mut [u64]) -> corpus::Progress {
-    let mut at = corpus::begin();
+fn run(rt: &(impl Input + Print), counts: &mut [u64]) -> corpus::Progress {
+    let mut at = corpus::begin(rt);
     while 0 < at.left {
-        at = corpus::behind(at, run_record(counts));
+        at = corpus::behind(at, run_record(rt, counts));
     }
     at
 }
 
-fn main() {
+fn main(rt: HostRuntime) {
     let mut counts = room_for_counts();
-    let at = run(&mut counts);
-    io::write_all(1, b"joins ");
-    io::print_decimal(1, at.done as u64);
-    io::write_all(1, b"\nanswers");
-    corpus::show(&counts[0..35]);
-    io::write_all(1, b"\ndisagreements ");
-    io::print_decimal(1, counts[35]);
-    io::write_all(1, b"\n");
-    corpus::end(at);
+    let at = run(&rt, &mut counts);
+    standard_streams::write_all(&rt, b"joins ");
+    standard_streams::print_decimal(&rt, at.done as u64);
+    standard_streams::write_all(&rt, b"\nanswers");
+    corpus::show(&rt, &counts[0..35]);
+    standard_streams::write_all(&rt, b"\ndisagreements ");
+    standard_streams::print_decimal(&rt, counts[35]);
+    standard_streams::write_all(&rt, b"\n");
+    corpus::end(&rt, at);
 }

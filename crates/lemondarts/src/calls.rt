@@ -21,16 +21,14 @@ fn write_back(bytes: &mut [u8], next: Board, answer: NumberedReply) -> u64
 }
 
 // Loads a table: its type, actions and rows, or refusal 10 or 11.
-#[unsafe(no_mangle)]
-pub extern "C" fn lemondarts_load(table: &[u8]) -> u64
+pub fn lemondarts_load(table: &[u8]) -> u64
     ensures { LoadReturns table.now result }
 {
     load_number(loader::load(table))
 }
 
 // Makes a new board.
-#[unsafe(no_mangle)]
-pub extern "C" fn lemondarts_new_board(bytes: &mut [u8], area: &mut [u8]) -> u64
+pub fn lemondarts_new_board(bytes: &mut [u8], area: &mut [u8]) -> u64
     ensures { NewBoardReturns bytes.old area.old result bytes.new area.new }
 {
     if bytes.len() < RECORD {
@@ -43,13 +41,7 @@ pub extern "C" fn lemondarts_new_board(bytes: &mut [u8], area: &mut [u8]) -> u64
 }
 
 // Puts a table on a place.
-#[unsafe(no_mangle)]
-pub extern "C" fn lemondarts_put_on(
-    bytes: &mut [u8],
-    area: &mut [u8],
-    place: usize,
-    table: &[u8],
-) -> u64
+pub fn lemondarts_put_on(bytes: &mut [u8], area: &mut [u8], place: usize, table: &[u8]) -> u64
     ensures { CallReturns bytes.old area.old (put_on place table.now) result bytes.new area.new }
 {
     if bytes.len() < RECORD {
@@ -62,8 +54,7 @@ pub extern "C" fn lemondarts_put_on(
 }
 
 // Takes a table off its place.
-#[unsafe(no_mangle)]
-pub extern "C" fn lemondarts_take_off(bytes: &mut [u8], area: &mut [u8], place: usize) -> u64
+pub fn lemondarts_take_off(bytes: &mut [u8], area: &mut [u8], place: usize) -> u64
     ensures { CallReturns bytes.old area.old (take-off place) result bytes.new area.new }
 {
     if bytes.len() < RECORD {
@@ -76,8 +67,7 @@ pub extern "C" fn lemondarts_take_off(bytes: &mut [u8], area: &mut [u8], place: 
 }
 
 // Permits or denies an action. The area is only read.
-#[unsafe(no_mangle)]
-pub extern "C" fn lemondarts_action(bytes: &mut [u8], area: &[u8], action: usize) -> u64
+pub fn lemondarts_action(bytes: &mut [u8], area: &[u8], action: usize) -> u64
     ensures { CallReturns bytes.old area.now (act action) result bytes.new area.now }
 {
     if bytes.len() < RECORD {

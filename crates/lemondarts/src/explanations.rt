@@ -5,8 +5,7 @@ use answers::explain_number;
 
 // Names the first denied action of a list and the part of the rule that denies it: the node in the answer, the place in `place`; or that none is
 // denied, or a refusal. Both work areas are zero on return, save for refusal 14.
-#[unsafe(no_mangle)]
-pub extern "C" fn lemondarts_explain(
+pub fn lemondarts_explain(
     sheet: &[u8],
     actions: &[u8],
     place: &mut [u64],

@@ -5,8 +5,7 @@ use answers::join_number;
 
 // Joins as many tables as `count` says, one after the other in `tables`, into `out`: the joined table's type, actions and rows, or a refusal. Both
 // work areas are zero on return, save for refusal 14.
-#[unsafe(no_mangle)]
-pub extern "C" fn lemondarts_join(
+pub fn lemondarts_join(
     count: usize,
     tables: &[u8],
     out: &mut [u8],

@@ -1,4 +1,7 @@
-// The public calls for C: numbers and byte slices only, a board as a record of bytes, an answer as one number. include/lemondarts.h declares them.
+// The public calls: numbers and byte slices only, a board as a record of bytes, an answer as one number. The crate lemondarts_c exports them for C, as
+// include/lemondarts.h declares them.
+#![tactic(auto)]
+
 mod calls;
 mod compiling;
 mod explanations;

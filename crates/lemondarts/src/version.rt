@@ -5,8 +5,7 @@ ghost use Rattle.header_version.specs.Version.{version_number};
 use header_version::version_number;
 
 // The version of include/lemondarts.h, as one number.
-#[unsafe(no_mangle)]
-pub extern "C" fn lemondarts_version() -> u64
+pub fn lemondarts_version() -> u64
     ensures { result ≡ version_number }
 {
     version_number()

@@ -23,46 +23,46 @@ pub(crate) fn ask(sheet: &[u8], list: &[u8]) -> Explained {
 }
 
 // No action of a list of so many is denied.
-pub(crate) fn tell_permitted(count: usize) {
-    say(b"permitted\nthe list has ");
-    say_number(count);
+pub(crate) fn tell_permitted(rt: &impl Print, count: usize) {
+    say(rt, b"permitted\nthe list has ");
+    say_number(rt, count);
     if count == 1 {
-        say(b" action");
+        say(rt, b" action");
     } else {
-        say(b" actions");
+        say(rt, b" actions");
     }
-    say(b", and none is denied\n");
+    say(rt, b", and none is denied\n");
 }
 
 // The denied action, and where it stands in the list.
-pub(crate) fn tell_denied(list: &[u8], names: &[u8], place: usize, node: usize) {
+pub(crate) fn tell_denied(rt: &impl Print, list: &[u8], names: &[u8], place: usize, node: usize) {
     let action = byte_at(list, place);
-    say(b"denied ");
-    say_number(place);
-    say(b" ");
-    say_number(node);
-    say(b"\naction ");
-    say_number(action);
-    say_name(names, action, b" (", b")");
-    say(b" is denied: word ");
-    say_number(following(place));
-    say(b" of the list, place ");
-    say_number(place);
-    say(b" counted from 0\n");
+    say(rt, b"denied ");
+    say_number(rt, place);
+    say(rt, b" ");
+    say_number(rt, node);
+    say(rt, b"\naction ");
+    say_number(rt, action);
+    say_name(rt, names, action, b" (", b")");
+    say(rt, b" is denied: word ");
+    say_number(rt, following(place));
+    say(rt, b" of the list, place ");
+    say_number(rt, place);
+    say(rt, b" counted from 0\n");
 }
 
 // The node that denies.
-pub(crate) fn say_denier(sheet: &[u8], node: usize) {
-    say(b"node ");
-    say_number(node);
-    say(b" (");
-    say_kind(kind_of(sheet, node));
-    say(b") denies it: ");
+pub(crate) fn say_denier(rt: &impl Print, sheet: &[u8], node: usize) {
+    say(rt, b"node ");
+    say_number(rt, node);
+    say(rt, b" (");
+    say_kind(rt, kind_of(sheet, node));
+    say(rt, b") denies it: ");
 }
 
 // Its words.
-pub(crate) fn say_quoted(sheet: &[u8], node: usize) {
-    say(b"\"");
-    say_part(sheet, node);
-    say(b"\"\n");
+pub(crate) fn say_quoted(rt: &impl Print, sheet: &[u8], node: usize) {
+    say(rt, b"\"");
+    say_part(rt, sheet, node);
+    say(rt, b"\"\n");
 }

@@ -9,13 +9,13 @@ use rule_files::{
 };
 
 // A list asked of a rule file.
-fn answer_rule_file(line: &[u8], file: &[u8]) {
+fn answer_rule_file(rt: &impl Print, line: &[u8], file: &[u8]) {
     if 65535 < file.len() {
-        refuse_long_file();
+        refuse_long_file(rt);
         return;
     }
     let mut sets = room_for_actions();
-    let head = read_head(file, &mut sets);
+    let head = read_head(rt, file, &mut sets);
     let count = head.count;
     if count == 0 {
         return;
@@ -25,6 +25,7 @@ fn answer_rule_file(line: &[u8], file: &[u8]) {
     let mut list = room_for_list();
     let length = read_list(line, names, &mut list);
     answer_rules(
+        rt,
         file,
         head.start,
         &sets[0..count],
@@ -41,25 +42,25 @@ fn miscounted(names: usize, sheet: &[u8]) -> bool {
 }
 
 // A list asked of a sheet. The names of its actions are given.
-fn answer_sheet_file(line: &[u8], names: &[u8], sheet: &[u8]) {
+fn answer_sheet_file(rt: &impl Print, line: &[u8], names: &[u8], sheet: &[u8]) {
     let named = read_names(names);
     let from = named.from;
     let to = named.to;
     if from < to {
-        refuse_name(&names[from..to], named.count, named.doubled);
+        refuse_name(rt, &names[from..to], named.count, named.doubled);
         return;
     }
     if miscounted(named.count, sheet) {
-        refuse_names(named.count, byte_at(sheet, 0));
+        refuse_names(rt, named.count, byte_at(sheet, 0));
         return;
     }
     let mut list = room_for_list();
     let length = read_list(line, names, &mut list);
-    answer_sheet(sheet, line, &list[0..length], names);
+    answer_sheet(rt, sheet, line, &list[0..length], names);
 }
 
 // A list, of which this is the line, and what follows that line.
-fn answer_behind(line: &[u8], file: &[u8]) {
+fn answer_behind(rt: &impl Print, line: &[u8], file: &[u8]) {
     let end = find(file, 0, 10);
     let first = &file[0..end];
     let word = word_behind(first, 0);
@@ -67,20 +68,23 @@ fn answer_behind(line: &[u8], file: &[u8]) {
     let to = word.to;
     if same(&first[from..to], b"sheet") {
         let start = line_behind(file, 0);
-        answer_sheet_file(line, &first[to..], &file[start..]);
+        answer_sheet_file(rt, line, &first[to..], &file[start..]);
         return;
     }
-    answer_rule_file(line, file);
+    answer_rule_file(rt, line, file);
 }
 
 // Prints the answer to what is read.
-pub(crate) fn answer(input: &[u8]) {
+pub(crate) fn answer(rt: &impl Print, input: &[u8]) {
     if 196607 < input.len() {
-        say_refusal(31, 0);
-        say(b"the input has more than 196607 bytes: ask of fewer actions, or of a shorter rule\n");
+        say_refusal(rt, 31, 0);
+        say(
+            rt,
+            b"the input has more than 196607 bytes: ask of fewer actions, or of a shorter rule\n",
+        );
         return;
     }
     let end = find(input, 0, 10);
     let start = line_behind(input, 0);
-    answer_behind(&input[0..end], &input[start..]);
+    answer_behind(rt, &input[0..end], &input[start..]);
 }

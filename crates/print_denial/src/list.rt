@@ -97,60 +97,69 @@ pub(crate) fn read_names(names: &[u8]) -> Listed
 }
 
 // 2: a word after so many names is none, or stands there before. The word `sheet` is the first of its line.
-pub(crate) fn refuse_name(word: &[u8], behind: usize, doubled: bool) {
-    say_refusal(2, 0);
-    say(b"line 2, word ");
-    say_number(following(following(behind)));
-    say(b": ");
-    say_word(word);
+pub(crate) fn refuse_name(rt: &impl Print, word: &[u8], behind: usize, doubled: bool) {
+    say_refusal(rt, 2, 0);
+    say(rt, b"line 2, word ");
+    say_number(rt, following(following(behind)));
+    say(rt, b": ");
+    say_word(rt, word);
     if doubled {
-        say(b" is the name of an action before it: each action has its own name\n");
+        say(
+            rt,
+            b" is the name of an action before it: each action has its own name\n",
+        );
         return;
     }
-    say(b" is not a name\n");
-    say_bytes(word);
-    say_naming();
+    say(rt, b" is not a name\n");
+    say_bytes(rt, word);
+    say_naming(rt);
 }
 
 // 2: not as many names as the sheet has actions.
-pub(crate) fn refuse_names(count: usize, actions: usize) {
-    say_refusal(2, 0);
-    say(b"line 2 names ");
-    say_number(count);
-    say(b" actions, and the sheet has ");
-    say_number(actions);
-    say(b": name each of them, or none\n");
+pub(crate) fn refuse_names(rt: &impl Print, count: usize, actions: usize) {
+    say_refusal(rt, 2, 0);
+    say(rt, b"line 2 names ");
+    say_number(rt, count);
+    say(rt, b" actions, and the sheet has ");
+    say_number(rt, actions);
+    say(rt, b": name each of them, or none\n");
 }
 
 // The name of an action, with what stands before and after it; nothing where it has none. Answers whether it has one.
-pub(crate) fn say_name(names: &[u8], action: usize, before: &[u8], behind: &[u8]) -> bool {
+pub(crate) fn say_name(
+    rt: &impl Print,
+    names: &[u8],
+    action: usize,
+    before: &[u8],
+    behind: &[u8],
+) -> bool {
     let name = name_at(names, action);
     let from = name.from;
     let to = name.to;
     if from == to {
         return false;
     }
-    say(before);
-    say(&names[from..to]);
-    say(behind);
+    say(rt, before);
+    say(rt, &names[from..to]);
+    say(rt, behind);
     true
 }
 
 // What an action can be, where there are so many.
-fn say_actions(names: &[u8], actions: usize) {
-    say(b"an action is a number without leading zero, below ");
-    say_number(actions);
+fn say_actions(rt: &impl Print, names: &[u8], actions: usize) {
+    say(rt, b"an action is a number without leading zero, below ");
+    say_number(rt, actions);
     let mut named = false;
     let mut action = 0;
     while action < actions {
         if named {
-            say_name(names, action, b" ", b"");
+            say_name(rt, names, action, b" ", b"");
         } else {
-            named = say_name(names, action, b", or a name: ", b"");
+            named = say_name(rt, names, action, b", or a name: ", b"");
         }
         action += 1;
     }
-    say(b"\n");
+    say(rt, b"\n");
 }
 
 // The place of the first number that is no action.
@@ -166,17 +175,17 @@ fn first_wrong(list: &[u8], actions: usize) -> usize {
 }
 
 // 12.
-pub(crate) fn refuse_list(line: &[u8], list: &[u8], names: &[u8], actions: usize) {
+pub(crate) fn refuse_list(rt: &impl Print, line: &[u8], list: &[u8], names: &[u8], actions: usize) {
     let place = first_wrong(list, actions);
     let word = word_behind(line, place);
     let from = word.from;
     let to = word.to;
-    say_refusal(12, 0);
-    say(b"the list, word ");
-    say_number(following(place));
-    say(b": ");
-    say_word(&line[from..to]);
-    say(b" is not an action\n");
-    say_bytes(&line[from..to]);
-    say_actions(names, actions);
+    say_refusal(rt, 12, 0);
+    say(rt, b"the list, word ");
+    say_number(rt, following(place));
+    say(rt, b": ");
+    say_word(rt, &line[from..to]);
+    say(rt, b" is not an action\n");
+    say_bytes(rt, &line[from..to]);
+    say_actions(rt, names, actions);
 }

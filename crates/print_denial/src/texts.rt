@@ -52,18 +52,18 @@ enum Asked {
 }
 
 // What the compiler refuses of the sheet of a text: 8 or 9.
-fn tell_refused(refusal: Refusal, text: &[u8], place: Place, sheet: &[u8])
+fn tell_refused(rt: &impl Print, refusal: Refusal, text: &[u8], place: Place, sheet: &[u8])
     requires { (length text.now ≤ 65535) × (place.line ≤ 65537) }
 {
     match refusal {
         Refusal::Faulty(_) => {}
-        Refusal::TooManyValues(node) => tell_values(text, place, sheet, node),
-        Refusal::TooManyRows(node) => tell_rows(text, place, sheet, node),
+        Refusal::TooManyValues(node) => tell_values(rt, text, place, sheet, node),
+        Refusal::TooManyRows(node) => tell_rows(rt, text, place, sheet, node),
     }
 }
 
 // Asks the sheet of a text, and tells what is refused of it.
-fn ask_sheet(text: &[u8], place: Place, sheet: &[u8], list: &[u8]) -> Asked
+fn ask_sheet(rt: &impl Print, text: &[u8], place: Place, sheet: &[u8], list: &[u8]) -> Asked
     requires { (length text.now ≤ 65535) × (place.line ≤ 65537) }
 {
     match ask(sheet, list) {
@@ -71,25 +71,32 @@ fn ask_sheet(text: &[u8], place: Place, sheet: &[u8], list: &[u8]) -> Asked
         Explained::Denied { place, node } => return Asked::Denied { place, node },
         Explained::WatchedSheet => return Asked::Watched,
         Explained::NoAction => return Asked::WrongList,
-        Explained::ShortArea => say_refusal(14, 0),
+        Explained::ShortArea => say_refusal(rt, 14, 0),
         Explained::Refused(refusal) => {
-            say_refusal(refusal_number(refusal), refusal_spot(refusal));
-            tell_refused(refusal, text, place, sheet);
+            say_refusal(rt, refusal_number(refusal), refusal_spot(refusal));
+            tell_refused(rt, refusal, text, place, sheet);
         }
     }
     Asked::Refused
 }
 
 // The same from a text under an action list.
-fn ask_rule(text: &[u8], place: Place, actions: &[u16], list: &[u8], names: &[u8]) -> Asked
+fn ask_rule(
+    rt: &impl Print,
+    text: &[u8],
+    place: Place,
+    actions: &[u16],
+    list: &[u8],
+    names: &[u8],
+) -> Asked
     requires { (length text.now ≤ 65535) × (place.line ≤ 65537) }
 {
     let mut sheet = room_for_sheet();
-    let length = read_rule(text, place, actions, names, &mut sheet);
+    let length = read_rule(rt, text, place, actions, names, &mut sheet);
     if length == 0 {
         return Asked::Refused;
     }
-    ask_sheet(text, place, front(&sheet, length), list)
+    ask_sheet(rt, text, place, front(&sheet, length), list)
 }
 
 // What is found with one rule more.
@@ -122,7 +129,14 @@ fn found_with(found: Found, asked: Asked, text: &[u8], place: Place, from: usize
 }
 
 // Asks the rules of a file one after the other.
-fn ask_rules(file: &[u8], start: usize, actions: &[u16], list: &[u8], names: &[u8]) -> Found
+fn ask_rules(
+    rt: &impl Print,
+    file: &[u8],
+    start: usize,
+    actions: &[u16],
+    list: &[u8],
+    names: &[u8],
+) -> Found
     requires { (start ≤ length file.now) × (length file.now ≤ 65535) }
 {
     let mut found = nothing(list.len());
@@ -132,7 +146,7 @@ fn ask_rules(file: &[u8], start: usize, actions: &[u16], list: &[u8], names: &[u
         let part = part_from(file, from, rule);
         let to = part.to;
         let place = part.place;
-        let asked = ask_rule(&file[from..to], place, actions, list, names);
+        let asked = ask_rule(rt, &file[from..to], place, actions, list, names);
         found = found_with(found, asked, &file[from..to], place, from);
         if found.refused | part.last {
             return found;
@@ -140,57 +154,65 @@ fn ask_rules(file: &[u8], start: usize, actions: &[u16], list: &[u8], names: &[u
         from = line_behind(file, to);
         rule += 1;
     }
-    say_refusal(2, 0);
-    tell_rules();
+    say_refusal(rt, 2, 0);
+    tell_rules(rt);
     refused()
 }
 
 // The part of a rule that denies, by the words of its text.
-fn tell_part(text: &[u8], place: Place, actions: &[u16], node: usize)
+fn tell_part(rt: &impl Print, text: &[u8], place: Place, actions: &[u16], node: usize)
     requires { (length text.now ≤ 65535) × (place.line ≤ 65537) }
 {
     let mut room = room_for_sheet();
-    let length = read_rule(text, place, actions, b"", &mut room);
+    let length = read_rule(rt, text, place, actions, b"", &mut room);
     let sheet = front(&room, length);
-    say_denier(sheet, node);
-    say_spot(text, place, words_before(sheet, node));
-    say_quoted(sheet, node);
+    say_denier(rt, sheet, node);
+    say_spot(rt, text, place, words_before(sheet, node));
+    say_quoted(rt, sheet, node);
 }
 
 // The rule whose text begins here denies.
-fn tell_rule(file: &[u8], from: usize, rule: usize, actions: &[u16], node: usize)
+fn tell_rule(rt: &impl Print, file: &[u8], from: usize, rule: usize, actions: &[u16], node: usize)
     requires { length file.now ≤ 65535 }
 {
     if from <= file.len() {
         let part = part_from(file, from, rule);
         let to = part.to;
         let place = part.place;
-        tell_part(&file[from..to], place, actions, node);
+        tell_part(rt, &file[from..to], place, actions, node);
     }
 }
 
 // The first denial, or that there is none.
-fn tell_first(found: Found, file: &[u8], actions: &[u16], list: &[u8], names: &[u8])
+fn tell_first(
+    rt: &impl Print,
+    found: Found,
+    file: &[u8],
+    actions: &[u16],
+    list: &[u8],
+    names: &[u8],
+)
     requires { length file.now ≤ 65535 }
 {
     let place = found.place;
     let node = found.node;
     if place == list.len() {
-        tell_permitted(place);
+        tell_permitted(rt, place);
         return;
     }
-    tell_denied(list, names, place, node);
-    tell_rule(file, found.from, found.rule, actions, node);
+    tell_denied(rt, list, names, place, node);
+    tell_rule(rt, file, found.from, found.rule, actions, node);
 }
 
 // 34: the first watched rule.
-fn refuse_watched(watched: Place) {
-    say_refusal(34, 0);
-    tell_watched(watched, b": ask of rules that begin with enforce\n");
+fn refuse_watched(rt: &impl Print, watched: Place) {
+    say_refusal(rt, 34, 0);
+    tell_watched(rt, watched, b": ask of rules that begin with enforce\n");
 }
 
 // Prints the answer to a list, of which this is the line, asked of the rules that begin here. The actions have these names.
 pub(crate) fn answer_rules(
+    rt: &impl Print,
     file: &[u8],
     start: usize,
     actions: &[u16],
@@ -200,18 +222,18 @@ pub(crate) fn answer_rules(
 )
     requires { (start ≤ length file.now) × (length file.now ≤ 65535) }
 {
-    let found = ask_rules(file, start, actions, list, names);
+    let found = ask_rules(rt, file, start, actions, list, names);
     let watched = found.watched;
     if found.refused {
         return;
     }
     if 0 < watched.line {
-        refuse_watched(watched);
+        refuse_watched(rt, watched);
         return;
     }
     if found.wrong_list {
-        refuse_list(line, list, names, actions.len());
+        refuse_list(rt, line, list, names, actions.len());
         return;
     }
-    tell_first(found, file, actions, list, names);
+    tell_first(rt, found, file, actions, list, names);
 }

@@ -7,46 +7,55 @@ use rule_files::{
 use trace::Mode;
 
 // 8 and 9: how the joined table grows too large.
-fn tell_grown(rules: usize, grown: &[u8]) {
-    say(b"joined, the ");
-    say_number(rules);
-    say(grown);
-    say(b": join fewer of them, and put the others on a second place\n");
+fn tell_grown(rt: &impl Print, rules: usize, grown: &[u8]) {
+    say(rt, b"joined, the ");
+    say_number(rt, rules);
+    say(rt, grown);
+    say(
+        rt,
+        b": join fewer of them, and put the others on a second place\n",
+    );
 }
 
-fn say_table(actions: usize, rows: usize, entries: &[u8]) {
+fn say_table(rt: &(impl Print + Eprint), actions: usize, rows: usize, entries: &[u8]) {
     let mut text = printing::room();
     let printed = printing::print_table(Mode::Enforced, actions, rows, entries, &mut text);
-    io::write_all(1, printing::written(printed, &text));
-    tell_idle(false, entries);
+    standard_streams::write_all(rt, printing::written(printed, &text));
+    tell_idle(rt, false, entries);
 }
 
 // Joins so many tables, and prints the answer. The first watched rule is told.
-pub(crate) fn answer_joined(rules: usize, tables: &[u8], watched: Place) {
+pub(crate) fn answer_joined(
+    rt: &(impl Print + Eprint),
+    rules: usize,
+    tables: &[u8],
+    watched: Place,
+) {
     let mut table = room_for_table();
     let mut work = room_for_bytes();
     let mut values = room_for_values();
     match joining::join(rules, tables, &mut table, &mut work, &mut values) {
-        Joined::Table { actions, rows } => say_table(actions, rows, &table[8..]),
-        Joined::ShortArea => say_refusal(14, 0),
-        Joined::WrongCount => say_refusal(2, 0),
-        Joined::Malformed => say_refusal(10, 0),
-        Joined::NotCanonical => say_refusal(11, 0),
+        Joined::Table { actions, rows } => say_table(rt, actions, rows, &table[8..]),
+        Joined::ShortArea => say_refusal(rt, 14, 0),
+        Joined::WrongCount => say_refusal(rt, 2, 0),
+        Joined::Malformed => say_refusal(rt, 10, 0),
+        Joined::NotCanonical => say_refusal(rt, 11, 0),
         Joined::WatchedTable => {
-            say_refusal(34, 0);
+            say_refusal(rt, 34, 0);
             tell_watched(
+                rt,
                 watched,
                 b", and is not joined: put it into a file and on a place of its own\n",
             );
         }
-        Joined::OtherActions => say_refusal(23, 0),
+        Joined::OtherActions => say_refusal(rt, 23, 0),
         Joined::TooManyValues => {
-            say_refusal(8, 0);
-            tell_grown(rules, b" rules remember more than 1024 values");
+            say_refusal(rt, 8, 0);
+            tell_grown(rt, rules, b" rules remember more than 1024 values");
         }
         Joined::TooManyRows => {
-            say_refusal(9, 0);
-            tell_grown(rules, b" rules need more than 64 rows");
+            say_refusal(rt, 9, 0);
+            tell_grown(rt, rules, b" rules need more than 64 rows");
         }
     }
 }

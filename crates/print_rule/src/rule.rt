@@ -36,7 +36,7 @@ fn table_length(compiled: Compiled) -> usize
 }
 
 // What compiling the sheet of a text answers, where that is a refusal: 8 or 9.
-fn tell_compiled(compiled: Compiled, text: &[u8], place: Place, sheet: &[u8])
+fn tell_compiled(rt: &impl Print, compiled: Compiled, text: &[u8], place: Place, sheet: &[u8])
     requires { (length text.now ≤ 65535) × (place.line ≤ 65537) }
 {
     let Compiled::Refused(refusal) = compiled else {
@@ -44,25 +44,31 @@ fn tell_compiled(compiled: Compiled, text: &[u8], place: Place, sheet: &[u8])
     };
     match refusal {
         Refusal::Faulty(_) => {}
-        Refusal::TooManyValues(node) => tell_values(text, place, sheet, node),
-        Refusal::TooManyRows(node) => tell_rows(text, place, sheet, node),
+        Refusal::TooManyValues(node) => tell_values(rt, text, place, sheet, node),
+        Refusal::TooManyRows(node) => tell_rows(rt, text, place, sheet, node),
     }
 }
 
 // Notes on standard error of a table without trip: its rule denies nothing, or is never reported.
-pub(crate) fn tell_idle(watched: bool, entries: &[u8]) {
+pub(crate) fn tell_idle(rt: &(impl Print + Eprint), watched: bool, entries: &[u8]) {
     if any_between(entries, 255, 255) {
         return;
     }
     if watched {
-        io::write_all(2, b"note: this rule is never reported\n");
+        standard_streams::write_error(rt, "note: this rule is never reported\n");
         return;
     }
-    io::write_all(2, b"note: this rule denies nothing\n");
+    standard_streams::write_error(rt, "note: this rule denies nothing\n");
 }
 
 // Compiles a text's sheet to the front of `out`, and answers the length of the table. Prints a refusal, and the table of an only rule.
-fn answer_sheet(text: &[u8], place: Place, sheet: &[u8], out: &mut [u8]) -> usize
+fn answer_sheet(
+    rt: &(impl Print + Eprint),
+    text: &[u8],
+    place: Place,
+    sheet: &[u8],
+    out: &mut [u8],
+) -> usize
     requires { (length text.now ≤ 65535) × (place.line ≤ 65537) × (1032 ≤ length out.old) }
     ensures { result ≤ 1032 }
 {
@@ -73,10 +79,10 @@ fn answer_sheet(text: &[u8], place: Place, sheet: &[u8], out: &mut [u8]) -> usiz
     if (length == 0) | (place.rule == 0) {
         let mut printed = printing::room();
         let done = sheet_printing::print_answer(compiled, &out[8..], &mut printed);
-        io::write_all(1, printing::written(done, &printed));
-        tell_compiled(compiled, text, place, sheet);
+        standard_streams::write_all(rt, printing::written(done, &printed));
+        tell_compiled(rt, compiled, text, place, sheet);
         if 8 < length {
-            tell_idle(out[0] == 2, front(&out[8..], length - 8));
+            tell_idle(rt, out[0] == 2, front(&out[8..], length - 8));
         }
     }
     length
@@ -84,6 +90,7 @@ fn answer_sheet(text: &[u8], place: Place, sheet: &[u8], out: &mut [u8]) -> usiz
 
 // The same from a text under an action list, which is written in a line.
 pub(crate) fn answer_text(
+    rt: &(impl Print + Eprint),
     text: &[u8],
     place: Place,
     actions: &[u16],
@@ -94,9 +101,9 @@ pub(crate) fn answer_text(
     ensures { result ≤ 1032 }
 {
     let mut sheet = room_for_sheet();
-    let length = read_rule(text, place, actions, list, &mut sheet);
+    let length = read_rule(rt, text, place, actions, list, &mut sheet);
     if length == 0 {
         return 0;
     }
-    answer_sheet(text, place, front(&sheet, length), out)
+    answer_sheet(rt, text, place, front(&sheet, length), out)
 }

@@ -20,7 +20,7 @@ fn refused() -> Head
 }
 
 // Reads the action list of a rule file to the front of `sets`, and tells what is refused of it.
-pub fn read_head(file: &[u8], sets: &mut [u16]) -> Head
+pub fn read_head(rt: &impl Print, file: &[u8], sets: &mut [u16]) -> Head
     ensures { (result.count ≤ 16) × (result.start ≤ length file.now) }
 {
     let end = find(file, 0, 10);
@@ -30,15 +30,15 @@ pub fn read_head(file: &[u8], sets: &mut [u16]) -> Head
     let to = listed.to;
     let count = listed.count;
     if from < to {
-        refuse_action(&list[from..to], count, listed.doubled);
+        refuse_action(rt, &list[from..to], count, listed.doubled);
         return refused();
     }
     if count == 0 {
-        refuse_actions(count);
+        refuse_actions(rt, count);
         return refused();
     }
     if 16 < count {
-        refuse_actions(count);
+        refuse_actions(rt, count);
         return refused();
     }
     Head {

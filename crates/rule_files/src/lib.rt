@@ -1,5 +1,7 @@
 // Rule files, as the programs print_rule and print_denial read them: the words of a line, the action list, the rules, and what is told of them on
 // standard output.
+#![tactic(auto)]
+
 mod actions;
 mod head;
 mod nodes;

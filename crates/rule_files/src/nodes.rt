@@ -95,23 +95,23 @@ pub fn kind_of(sheet: &[u8], node: usize) -> usize
 }
 
 // The word of a kind; the letter of a proposition.
-pub fn say_kind(kind: usize) {
+pub fn say_kind(rt: &impl Print, kind: usize) {
     match kind {
-        1 => say(b"true"),
-        2 => say(b"false"),
-        3 => say(b"p"),
-        4 | 13 => say(b"not"),
-        5 | 14 => say(b"and"),
-        6 | 15 => say(b"or"),
-        10 => say(b"now"),
-        11 => say(b"holds"),
-        12 => say(b"count"),
-        16 => say(b"eventually"),
-        17 => say(b"always"),
-        18 | 19 => say(b"before"),
-        20 | 21 => say(b"after"),
-        22 => say(b"fulfilling"),
-        _ => say(b"ignoring"),
+        1 => say(rt, b"true"),
+        2 => say(rt, b"false"),
+        3 => say(rt, b"p"),
+        4 | 13 => say(rt, b"not"),
+        5 | 14 => say(rt, b"and"),
+        6 | 15 => say(rt, b"or"),
+        10 => say(rt, b"now"),
+        11 => say(rt, b"holds"),
+        12 => say(rt, b"count"),
+        16 => say(rt, b"eventually"),
+        17 => say(rt, b"always"),
+        18 | 19 => say(rt, b"before"),
+        20 | 21 => say(rt, b"after"),
+        22 => say(rt, b"fulfilling"),
+        _ => say(rt, b"ignoring"),
     }
 }
 
@@ -128,14 +128,14 @@ fn parts_of(kind: usize) -> usize
 }
 
 // The words that a node itself is.
-fn say_node(sheet: &[u8], node: usize) {
+fn say_node(rt: &impl Print, sheet: &[u8], node: usize) {
     let kind = kind_of(sheet, node);
-    say_kind(kind);
+    say_kind(rt, kind);
     if (kind == COUNT) | (kind == FULFILLING) {
-        say(b" ");
+        say(rt, b" ");
     }
     if (kind == PROPOSITION) | (kind == COUNT) | (kind == FULFILLING) {
-        say_number(field(sheet, node, 1));
+        say_number(rt, field(sheet, node, 1));
     }
 }
 
@@ -162,22 +162,22 @@ fn room_for_nodes() -> [usize; 132]
 }
 
 // The words that a node and its parts are. 64 nodes are the most of a text; a sheet that shares parts can be longer as words, and is cut there.
-pub fn say_part(sheet: &[u8], node: usize) {
+pub fn say_part(rt: &impl Print, sheet: &[u8], node: usize) {
     let mut stack = room_for_nodes();
     stack[0] = node;
     let mut count = 1;
     let mut said = 0usize;
     while 0 < count {
         if said == 64 {
-            say(b" ..");
+            say(rt, b" ..");
             return;
         }
         count -= 1;
         if 0 < said {
-            say(b" ");
+            say(rt, b" ");
         }
         let next = stack[count];
-        say_node(sheet, next);
+        say_node(rt, sheet, next);
         count = push_parts(sheet, next, &mut stack, count);
         said += 1;
     }

@@ -17,12 +17,15 @@ pub fn following(count: usize) -> usize
 }
 
 // What a name is to be.
-pub fn say_naming() {
-    say(b"a name is of small letters and digits, begins with a letter, and is not p and a digit\n");
+pub fn say_naming(rt: &impl Print) {
+    say(
+        rt,
+        b"a name is of small letters and digits, begins with a letter, and is not p and a digit\n",
+    );
 }
 
 // What a word has in it that no word has: a byte that cannot be seen, a bracket, a capital letter. Nothing where it has none.
-pub fn say_bytes(word: &[u8]) {
+pub fn say_bytes(rt: &impl Print, word: &[u8]) {
     let misfit = misfit_of(word, Category::Text, false);
     match misfit {
         Misfit::Return
@@ -33,100 +36,114 @@ pub fn say_bytes(word: &[u8]) {
         | Misfit::Capital => {
             let mut room = room_for_text();
             let end = add_misfit(misfit, word, &mut room, 0);
-            say(front(&room, end));
+            say(rt, front(&room, end));
         }
         _ => {}
     }
 }
 
 // 2: a word of the action list, after so many actions, is none, or has the name of one of them.
-pub fn refuse_action(word: &[u8], behind: usize, doubled: bool) {
-    say_refusal(2, 0);
-    say(b"line 1, word ");
-    say_number(following(behind));
-    say(b": ");
-    say_word(word);
+pub fn refuse_action(rt: &impl Print, word: &[u8], behind: usize, doubled: bool) {
+    say_refusal(rt, 2, 0);
+    say(rt, b"line 1, word ");
+    say_number(rt, following(behind));
+    say(rt, b": ");
+    say_word(rt, word);
     if doubled {
-        say(b" has the name of an action before it: each action has its own name\n");
+        say(
+            rt,
+            b" has the name of an action before it: each action has its own name\n",
+        );
         return;
     }
-    say(b" is not an action\n");
-    say_bytes(word);
+    say(rt, b" is not an action\n");
+    say_bytes(rt, word);
     say(
+        rt,
         b"an action is the propositions that hold of it, p0 to p15, joined by + (p0+p2), or - where none holds; its name may stand before them (gas=p4)\n",
     );
     if find(word, 0, b'=') < word.len() {
-        say_naming();
+        say_naming(rt);
     }
 }
 
 // 2: no action, or too many.
-pub fn refuse_actions(count: usize) {
-    say_refusal(2, 0);
+pub fn refuse_actions(rt: &impl Print, count: usize) {
+    say_refusal(rt, 2, 0);
     if count == 0 {
         say(
+            rt,
             b"line 1 lists no action: write the actions there, separated by spaces, and the rule from line 2 on\n",
         );
         say(
+            rt,
             b"an action is the propositions that hold of it, p0 to p15, joined by + (p0+p2), or - where none holds; its name may stand before them (gas=p4)\n",
         );
         return;
     }
-    say(b"line 1 lists ");
-    say_number(count);
-    say(b" actions, and 16 are the most: remove some\n");
+    say(rt, b"line 1 lists ");
+    say_number(rt, count);
+    say(rt, b" actions, and 16 are the most: remove some\n");
 }
 
 // Which rule is told of, where there are several.
-pub fn say_rule(rule: usize, behind: &[u8]) {
+pub fn say_rule(rt: &impl Print, rule: usize, behind: &[u8]) {
     if rule == 0 {
         return;
     }
-    say(b"rule ");
-    say_number(rule);
-    say(behind);
+    say(rt, b"rule ");
+    say_number(rt, rule);
+    say(rt, behind);
 }
 
 // 2: more rules than a file can have.
-pub fn tell_rules() {
+pub fn tell_rules(rt: &impl Print) {
     say(
+        rt,
         b"the file has more than 8 rules, and 8 are the most: put the others into a second file, and on a second place\n",
     );
 }
 
 // 34: a watched rule, on the line of its first word, and what to do.
-pub fn tell_watched(watched: Place, advice: &[u8]) {
-    say_rule(watched.rule, b", ");
-    say(b"line ");
-    say_number(watched.line);
-    say(b": a watched rule denies nothing");
-    say(advice);
+pub fn tell_watched(rt: &impl Print, watched: Place, advice: &[u8]) {
+    say_rule(rt, watched.rule, b", ");
+    say(rt, b"line ");
+    say_number(rt, watched.line);
+    say(rt, b": a watched rule denies nothing");
+    say(rt, advice);
 }
 
 // 31.
-pub fn tell_long(length: usize, place: Place) {
-    say_rule(place.rule, b": ");
-    say(b"the rule has ");
-    say_number(length);
-    say(b" bytes, and 1024 are the most: shorten it, or split it into rules on several places\n");
+pub fn tell_long(rt: &impl Print, length: usize, place: Place) {
+    say_rule(rt, place.rule, b": ");
+    say(rt, b"the rule has ");
+    say_number(rt, length);
+    say(
+        rt,
+        b" bytes, and 1024 are the most: shorten it, or split it into rules on several places\n",
+    );
 }
 
 // 31, of a file with over 65,535 bytes.
-pub fn refuse_long_file() {
-    say_refusal(31, 0);
-    say(b"the file has more than 65535 bytes, and a rule 1024 at the most: shorten it\n");
+pub fn refuse_long_file(rt: &impl Print) {
+    say_refusal(rt, 31, 0);
+    say(
+        rt,
+        b"the file has more than 65535 bytes, and a rule 1024 at the most: shorten it\n",
+    );
 }
 
 // 33.
-pub fn tell_nodes(place: Place) {
-    say_rule(place.rule, b": ");
+pub fn tell_nodes(rt: &impl Print, place: Place) {
+    say_rule(rt, place.rule, b": ");
     say(
+        rt,
         b"the rule has more than 64 nodes, which are its words except the first and the numbers: shorten it, or split it into rules on several places\n",
     );
 }
 
 // Where a word of the rule stands, after so many. The place has the line on which the text begins.
-pub fn say_spot(text: &[u8], place: Place, words: usize)
+pub fn say_spot(rt: &impl Print, text: &[u8], place: Place, words: usize)
     requires { (length text.now ≤ 65535) × (place.line ≤ 65537) }
 {
     let span = word_behind(text, words);
@@ -134,18 +151,18 @@ pub fn say_spot(text: &[u8], place: Place, words: usize)
     let line = place.line + newlines(text, from);
     let mut room = room_for_text();
     let end = add_place(place.rule, line, following(words), &mut room, 0);
-    say(front(&room, end));
+    say(rt, front(&room, end));
 }
 
 // The same, and the word.
-pub fn say_place(text: &[u8], place: Place, words: usize)
+pub fn say_place(rt: &impl Print, text: &[u8], place: Place, words: usize)
     requires { (length text.now ≤ 65535) × (place.line ≤ 65537) }
 {
     let span = word_behind(text, words);
     let from = span.from;
     let to = span.to;
-    say_spot(text, place, words);
-    say_word(&text[from..to]);
+    say_spot(rt, text, place, words);
+    say_word(rt, &text[from..to]);
 }
 
 // Whether a word is the name of an action of a list.
@@ -154,17 +171,27 @@ fn is_action(list: &[u8], word: &[u8]) -> bool {
 }
 
 // What the name of an action stands for.
-fn say_named(list: &[u8], name: &[u8]) {
+fn say_named(rt: &impl Print, list: &[u8], name: &[u8]) {
     let span = word_behind(list, base::byte(action_named(list, name)));
     let from = span.from;
     let to = span.to;
-    say(b"the action list has ");
-    say(&list[from..to]);
-    say(b": write its proposition in the rule; for two, p0+p2, write: and p0 p2\n");
+    say(rt, b"the action list has ");
+    say(rt, &list[from..to]);
+    say(
+        rt,
+        b": write its proposition in the rule; for two, p0+p2, write: and p0 p2\n",
+    );
 }
 
 // 32, after so many words. The file's actions are listed.
-pub fn tell_unreadable(text: &[u8], place: Place, words: usize, expected: Category, list: &[u8])
+pub fn tell_unreadable(
+    rt: &impl Print,
+    text: &[u8],
+    place: Place,
+    words: usize,
+    expected: Category,
+    list: &[u8],
+)
     requires { (length text.now ≤ 65535) × (place.line ≤ 65537) }
 {
     let span = word_behind(text, words);
@@ -175,9 +202,9 @@ pub fn tell_unreadable(text: &[u8], place: Place, words: usize, expected: Catego
     let mut room = room_for_text();
     let at = add_misfit(misfit, &text[from..to], &mut room, 0);
     let end = add_expected(expected, &mut room, at);
-    say_spot(text, place, words);
-    say(front(&room, end));
+    say_spot(rt, text, place, words);
+    say(rt, front(&room, end));
     if named {
-        say_named(list, &text[from..to]);
+        say_named(rt, list, &text[from..to]);
     }
 }

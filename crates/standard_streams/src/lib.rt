@@ -54,3 +54,8 @@ pub fn print_decimal(rt: &impl Print, number: u64) -> bool {
 pub fn print_hex(rt: &impl Print, number: u64) -> bool {
     print!(rt; "{number:02x}").is_ok()
 }
+
+// Writes text to standard error. Answers whether all of it was written.
+pub fn write_error(rt: &impl Eprint, words: &str) -> bool {
+    rt.eprint(words).is_ok()
+}

@@ -1,5 +1,7 @@
 // The corpus of texts, given to the reader for C and to a second one. The answer of each, and each byte of its output, are held to those that the corpus
 // expects.
+#![tactic(auto)]
+
 ghost use Rattle.std.specs.Prelude.{◌≡◌, ◌≤◌, length};
 
 // The counts: answers by number, and in the last slot the texts on which something is not as expected.
@@ -102,15 +104,15 @@ fn compare(
 }
 
 // Reads the rest of a record, behind its name, and compares.
-fn run_text(counts: &mut [u64]) -> corpus::Ran {
+fn run_text(rt: &impl Input, counts: &mut [u64]) -> corpus::Ran {
     let mut size = corpus::room_for_name();
     let mut actions = corpus::room_for_name();
     let mut text = room_for_text();
     let mut expected = room_for_output();
-    let sized = corpus::read_block(&mut size);
-    let listed = corpus::read_block(&mut actions);
-    let given = corpus::read_block(&mut text);
-    let answered = corpus::read_block(&mut expected);
+    let sized = corpus::read_block(rt, &mut size);
+    let listed = corpus::read_block(rt, &mut actions);
+    let given = corpus::read_block(rt, &mut text);
+    let answered = corpus::read_block(rt, &mut expected);
     let l = listed.number;
     let g = given.number;
     let a = answered.number;
@@ -128,32 +130,32 @@ fn run_text(counts: &mut [u64]) -> corpus::Ran {
 }
 
 // Reads a record and compares. Answers whether all of it was there.
-fn run_record(counts: &mut [u64]) -> bool {
+fn run_record(rt: &(impl Input + Print), counts: &mut [u64]) -> bool {
     let mut name = corpus::room_for_name();
-    let named = corpus::read_block(&mut name);
+    let named = corpus::read_block(rt, &mut name);
     let n = named.number;
-    let ran = run_text(counts);
-    corpus::settle(counts, DISAGREEMENTS, named.whole, ran, &name[0..n])
+    let ran = run_text(rt, counts);
+    corpus::settle(rt, counts, DISAGREEMENTS, named.whole, ran, &name[0..n])
 }
 
 // Runs the records.
-fn run(counts: &mut [u64]) -> corpus::Progress {
-    let mut at = corpus::begin();
+fn run(rt: &(impl Input + Print), counts: &mut [u64]) -> corpus::Progress {
+    let mut at = corpus::begin(rt);
     while 0 < at.left {
-        at = corpus::behind(at, run_record(counts));
+        at = corpus::behind(at, run_record(rt, counts));
     }
     at
 }
 
-fn main() {
+fn main(rt: HostRuntime) {
     let mut counts = room_for_counts();
-    let at = run(&mut counts);
-    io::write_all(1, b"texts ");
-    io::print_decimal(1, at.done as u64);
-    io::write_all(1, b"\nanswers");
-    corpus::show(&counts[0..34]);
-    io::write_all(1, b"\ndisagreements ");
-    io::print_decimal(1, counts[34]);
-    io::write_all(1, b"\n");
-    corpus::end(at);
+    let at = run(&rt, &mut counts);
+    standard_streams::write_all(&rt, b"texts ");
+    standard_streams::print_decimal(&rt, at.done as u64);
+    standard_streams::write_all(&rt, b"\nanswers");
+    corpus::show(&rt, &counts[0..34]);
+    standard_streams::write_all(&rt, b"\ndisagreements ");
+    standard_streams::print_decimal(&rt, counts[34]);
+    standard_streams::write_all(&rt, b"\n");
+    corpus::end(&rt, at);
 }
