@@ -1,4 +1,6 @@
 // Reading a sheet whose areas are found: its action list, and its nodes by checks 4 and 5.
+#![tactic(auto)]
+
 use syntax::{Judged, ListedNode, Node};
 
 mod nodes;
