@@ -1,4 +1,6 @@
 // The table loader: checks 10 and 11.
+#![tactic(auto)]
+
 mod rows;
 
 ghost use Rattle.table.specs.Answer.{Loads, answer_of};
