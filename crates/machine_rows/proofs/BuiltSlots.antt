@@ -10,8 +10,7 @@ use lib.ListN.{get_or}
 use lib.Seq.{get_or-take}
 use Rattle.trace.specs.Trace.{Step}
 use Rattle.limits.specs.declared.Limits.{Limits}
-use Rattle.policy.specs.Closed.{Closed}
-use Rattle.rules.specs.Rules.{slot_at, part_at, Readable}
+use Rattle.rules.specs.Rules.{slot_at, Readable}
 use Rattle.rules.proofs.Slots.{slot-readable}
 use Rattle.machine_rows.specs.Builds.{SlotBuilt}
 

@@ -1,4 +1,6 @@
 // The rows of a machine on numbers, in a slot of the work area: its values explored, refined, and divided by alikeness.
+#![tactic(auto)]
+
 mod divide;
 mod scratch;
 mod sizes;
