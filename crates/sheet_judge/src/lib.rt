@@ -1,4 +1,6 @@
 // Checks 1 to 7 of a rule sheet in bytes, in their order: the sheet with the types of its nodes, or the first fault.
+#![tactic(auto)]
+
 use syntax::{Fault, Sheet, TypedNode};
 use trace::Mode;
 
