@@ -74,6 +74,7 @@ ending (End ∷ s) = record { words = _; read = end (ending s).read }
 
 whole : {ws : List Word} → ReadsAll (Text ∷ End ∷ []) ws → InLanguage ws
 whole (part {x} a (end nothing)) = record { rule = x; reads = rw append-nil a }
+whole (part a (part x _)) = elim x [ ]
 
 passed-completable : {us : List Word} {t : List Category} → Passes (Text ∷ End ∷ []) us t → Completable us
 passed-completable {t} p = record { more = (ending t).words; whole = whole (passed p (ending t).read) }

@@ -1,7 +1,7 @@
 -- How the words of the language are spelled, and which of them a word is. `token-spelled` (proofs/Tokens.antt): a word that is one of them is
 -- spelled so; and each of them is found by its spelling.
 -- Assumes nothing.
-use Rattle.std.specs.Prelude.{◌≡◌, Bool, true, false, cond, ◌&&◌, ◌||◌, List, [], ◌∷◌, ℕ, ◌+◌, ◌*◌, ◌-◌, ◌/◌, ◌%◌, ◌≤◌, eqb, leb, ltb, length, get_or, drop}
+use Rattle.std.specs.Prelude.{Bool, true, false, cond, ◌&&◌, ◌||◌, List, [], ◌∷◌, ℕ, ◌+◌, ◌*◌, ◌-◌, ◌/◌, ◌%◌, eqb, leb, ltb, length, get_or, drop}
 use Prim.Native.String.{String, [] as no-letter, ◌∷◌ as ◌before◌}
 use Prim.Native.Char.{code}
 use Rattle.grammar.specs.Words.{Word}
