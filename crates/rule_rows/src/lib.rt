@@ -1,4 +1,6 @@
 // The rows of a list of rules, one after the other, each in its slot of the work area.
+#![tactic(auto)]
+
 ghost use Rattle.rule_rows.specs.Next.{NextTo, NextBuildable};
 ghost use Rattle.rule_rows.specs.Lists.{FinishesTo, AllBuildable};
 
