@@ -1,4 +1,6 @@
 // Writing sheets: nodes one by one to an array with room for 64 of them; then the header, the action list and these nodes to the front of an output.
+#![tactic(auto)]
+
 pub mod kinds;
 mod nodes;
 mod sheets;

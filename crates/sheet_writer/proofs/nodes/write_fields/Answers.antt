@@ -1,5 +1,4 @@
 -- `sheet_writer::nodes::write_fields` meets its contract.
--- Assumes nothing.
 use mathlib.Core.Path.{◌≡◌}
 use mathlib.Core.List.{List}
 use Prim.Native.Nat.{ℕ, suc, ◌+◌, ◌<◌}
@@ -8,10 +7,8 @@ use native.Mathlib.Numerals.{add-one}
 use native.Mathlib.Omega.{arith}
 use lib.ListN.{set, length-set}
 use lib.Seq.{sets}
-use borrow.Author.Rules.{rules}
 use Rattle.sheet_writer.specs.Bytes.{five_bytes}
-use Rattle.sheet_writer.proofs.nodes.write_fields.Statement.{statement}
-use Rattle.sheet_writer.proofs.nodes.write_fields.Tie as tie
+use Rattle.sheet_writer.proofs.nodes.write_fields.Goals as goal
 
 -- five bytes stored one after the other
 five-stores : (l : List ℕ) (at : ℕ) {v w x y z : ℕ}
@@ -27,21 +24,17 @@ five-stores l at {v} {w} {x} {y} {z} p q r s t =
     let four : at + 4 ≡ suc (suc (suc (suc at))) = omega arith in
     rw (add-one at, two, three, four, mod-eq_of_lt p, mod-eq_of_lt q, mod-eq_of_lt r, mod-eq_of_lt s, mod-eq_of_lt t)
 
-returns : tie.Need-returns
+pub returns : goal.returns
 returns c = five-stores c.args.out.now c.args.at (omega arith) (omega arith) (omega arith) (omega arith) (omega arith)
 
-pub write-fields-spec : {M : Type 1} → statement M
-write-fields-spec =
-    tie.close
-    (tie.spec
-    (λ c. search rules)
-    (λ c. search rules)
-    (λ c. simp length-set (omega arith))
-    (λ c. search rules)
-    (λ c. simp length-set (omega arith))
-    (λ c. search rules)
-    (λ c. simp length-set (omega arith))
-    (λ c. search rules)
-    (λ c. simp length-set (omega arith))
-    (λ c. search rules)
-    returns)
+pub bounds-out-at-2 : goal.bounds-out-at-2
+bounds-out-at-2 c = simp length-set (omega arith)
+
+pub bounds-out-at-3 : goal.bounds-out-at-3
+bounds-out-at-3 c = simp length-set (omega arith)
+
+pub bounds-out-at-4 : goal.bounds-out-at-4
+bounds-out-at-4 c = simp length-set (omega arith)
+
+pub bounds-out-at-5 : goal.bounds-out-at-5
+bounds-out-at-5 c = simp length-set (omega arith)
