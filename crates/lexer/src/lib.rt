@@ -1,4 +1,6 @@
 // The words of a text, one after the other, and which of the language's words (crate grammar) each is.
+#![tactic(auto)]
+
 use grammar::Token;
 
 mod positions;
