@@ -1,4 +1,6 @@
 // From a machine on numbers to the bytes of a table: its rows built in a slot of the work area, and written behind a header of any type.
+#![tactic(auto)]
+
 ghost use Rattle.std.specs.Prelude.{◌≡◌, ◌++◌, length, drop};
 ghost use Rattle.table.specs.Answer.{mode_number};
 ghost use Rattle.making.specs.Making.{WritesTo};
