@@ -1,6 +1,6 @@
 -- What an action does to the rule on a place: whether the rule denies it, where the rule moves, and whether the action fulfils it.
 -- Assumes nothing.
-use Rattle.std.specs.Prelude.{◌≡◌, Bool, true, false, cond, List, ℕ, ◌+◌, ◌*◌, ◌<◌, eqb, get_or}
+use Rattle.std.specs.Prelude.{◌≡◌, Bool, false, cond, List, ℕ, ◌+◌, ◌*◌, ◌<◌, eqb, get_or}
 use Rattle.table.specs.Table.{actions_of, entries_of}
 use Rattle.places.specs.declared.Case.{Case}
 use Rattle.places.specs.declared.Case.TheVariants.{Empty, Enforced, Watched, Fulfilled}
