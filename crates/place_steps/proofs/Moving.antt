@@ -1,13 +1,11 @@
 -- A rule under an action, by the entry in its row.
 -- Assumes nothing.
-use mathlib.Core.Path.{◌≡◌, refl, ap, sym, ◌∙◌}
-use mathlib.Core.List.{List}
+use mathlib.Core.Path.{refl, ap}
 use Prim.Native.Nat.{ℕ}
 use lib.Dec.{eqb}
 use mathlib.Core.Bool.{false}
 use Rattle.view.specs.Moves.{watched_move}
 use Rattle.place_steps.specs.Moving.{MovesBy}
-use Rattle.places.specs.declared.Case.{Case}
 use Rattle.places.specs.declared.Case.TheVariants.{Empty, Enforced, Watched, Fulfilled}
 
 -- an empty place stays so, and a fulfilled rule too, with nothing reported

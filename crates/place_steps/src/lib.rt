@@ -1,4 +1,6 @@
 // What an action does to the rule on a place: its next case, whether it denies the action, and whether the action fulfils it.
+#![tactic(auto)]
+
 ghost use Rattle.std.specs.Prelude.{◌≡◌};
 ghost use Rattle.view.specs.Moves.{watched_move};
 ghost use Rattle.place_steps.specs.Moving.{MovesBy};
