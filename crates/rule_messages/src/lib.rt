@@ -1,4 +1,6 @@
 // What an operator is told of a rule: texts as definitions (specs/Told.antt), written into a lent area (crate messages).
+#![tactic(auto)]
+
 mod expected;
 mod misfits;
 mod reasons;
