@@ -93,25 +93,25 @@ module _ (sheet : Sheet) (from : ℕ) where
   formula-used n always-false = leaf n _
   formula-used n (proposition p) = leaf n _
   formula-used n (negation f) = one n (formula_nodes n f) Negation (λ i. refl) (formula-used n f)
-  formula-used n (conjunction f g) = two n (formula_nodes n f) (formula_nodes _ g) Conjunction (λ i j. refl) (formula-used n f) (formula-used _ g)
-  formula-used n (disjunction f g) = two n (formula_nodes n f) (formula_nodes _ g) Disjunction (λ i j. refl) (formula-used n f) (formula-used _ g)
+  formula-used n (conjunction f g) = two n (formula_nodes n f) (formula_nodes _ g) Conjunction (λ i j. refl) (formula-used n f) (formula-used (n + length (formula_nodes n f)) g)
+  formula-used n (disjunction f g) = two n (formula_nodes n f) (formula_nodes _ g) Disjunction (λ i j. refl) (formula-used n f) (formula-used (n + length (formula_nodes n f)) g)
 
   policy-used : (n : ℕ) (p : Policy) → Runs n (policy_nodes n p)
   policy-used n (now f) = one n (formula_nodes n f) Now (λ i. refl) (formula-used n f)
   policy-used n (holds-first f) = one n (formula_nodes n f) Holds (λ i. refl) (formula-used n f)
   policy-used n (count k) = leaf n _
   policy-used n (not-p a) = one n (policy_nodes n a) Not (λ i. refl) (policy-used n a)
-  policy-used n (and-p a b) = two n (policy_nodes n a) (policy_nodes _ b) And (λ i j. refl) (policy-used n a) (policy-used _ b)
-  policy-used n (or-p a b) = two n (policy_nodes n a) (policy_nodes _ b) Or (λ i j. refl) (policy-used n a) (policy-used _ b)
+  policy-used n (and-p a b) = two n (policy_nodes n a) (policy_nodes _ b) And (λ i j. refl) (policy-used n a) (policy-used (n + length (policy_nodes n a)) b)
+  policy-used n (or-p a b) = two n (policy_nodes n a) (policy_nodes _ b) Or (λ i j. refl) (policy-used n a) (policy-used (n + length (policy_nodes n a)) b)
   policy-used n (eventually a) = one n (policy_nodes n a) Eventually (λ i. refl) (policy-used n a)
   policy-used n (always a) = one n (policy_nodes n a) Always (λ i. refl) (policy-used n a)
-  policy-used n (before- a b) = two n (policy_nodes n a) (policy_nodes _ b) BeforeMinus (λ i j. refl) (policy-used n a) (policy-used _ b)
-  policy-used n (before+ a b) = two n (policy_nodes n a) (policy_nodes _ b) BeforePlus (λ i j. refl) (policy-used n a) (policy-used _ b)
-  policy-used n (after- a b) = two n (policy_nodes n a) (policy_nodes _ b) AfterMinus (λ i j. refl) (policy-used n a) (policy-used _ b)
-  policy-used n (after+ a b) = two n (policy_nodes n a) (policy_nodes _ b) AfterPlus (λ i j. refl) (policy-used n a) (policy-used _ b)
+  policy-used n (before- a b) = two n (policy_nodes n a) (policy_nodes _ b) BeforeMinus (λ i j. refl) (policy-used n a) (policy-used (n + length (policy_nodes n a)) b)
+  policy-used n (before+ a b) = two n (policy_nodes n a) (policy_nodes _ b) BeforePlus (λ i j. refl) (policy-used n a) (policy-used (n + length (policy_nodes n a)) b)
+  policy-used n (after- a b) = two n (policy_nodes n a) (policy_nodes _ b) AfterMinus (λ i j. refl) (policy-used n a) (policy-used (n + length (policy_nodes n a)) b)
+  policy-used n (after+ a b) = two n (policy_nodes n a) (policy_nodes _ b) AfterPlus (λ i j. refl) (policy-used n a) (policy-used (n + length (policy_nodes n a)) b)
   policy-used n (fulfilling k a b c) =
-      three n (policy_nodes n a) (policy_nodes _ b) (policy_nodes _ c) (Fulfilling k) (λ i j l. refl) (policy-used n a) (policy-used _ b) (policy-used _ c)
-  policy-used n (ignoring f b) = two n (formula_nodes n f) (policy_nodes _ b) Ignoring (λ i j. refl) (formula-used n f) (policy-used _ b)
+      three n (policy_nodes n a) (policy_nodes _ b) (policy_nodes _ c) (Fulfilling k) (λ i j l. refl) (policy-used n a) (policy-used (n + length (policy_nodes n a)) b) (policy-used (n + length (policy_nodes n a) + length (policy_nodes (n + length (policy_nodes n a)) b)) c)
+  policy-used n (ignoring f b) = two n (formula_nodes n f) (policy_nodes _ b) Ignoring (λ i j. refl) (formula-used n f) (policy-used (n + length (formula_nodes n f)) b)
 
 -- Every node of the sheet of a policy is used.
 pub text-all-used : (actions : List ℕ) (p : Policy) (n : ℕ) → n < (sheet_for actions p).count → Used (sheet_for actions p) n

@@ -88,9 +88,9 @@ module _ (sheet : Sheet) where
   formula-means n (proposition p) s = leaf n _ s refl
   formula-means n (negation f) s = one n (formula_nodes n f) Negation (some-formula n f) s (formula-means n f) (λ before i p. rw p)
   formula-means n (conjunction f g) s =
-      two n (formula_nodes n f) (formula_nodes _ g) Conjunction (some-formula n f) (some-formula _ g) s (formula-means n f) (formula-means _ g) (λ before i j p q. rw (p, q))
+      two n (formula_nodes n f) (formula_nodes _ g) Conjunction (some-formula n f) (some-formula _ g) s (formula-means n f) (formula-means (n + length (formula_nodes n f)) g) (λ before i j p q. rw (p, q))
   formula-means n (disjunction f g) s =
-      two n (formula_nodes n f) (formula_nodes _ g) Disjunction (some-formula n f) (some-formula _ g) s (formula-means n f) (formula-means _ g) (λ before i j p q. rw (p, q))
+      two n (formula_nodes n f) (formula_nodes _ g) Disjunction (some-formula n f) (some-formula _ g) s (formula-means n f) (formula-means (n + length (formula_nodes n f)) g) (λ before i j p q. rw (p, q))
 
   -- two policies
   pair : (n : ℕ) (a b : Policy) (whole : ℕ → ℕ → Node) {z : Meaning} → Stand n (over_two n (policy_nodes n a) (policy_nodes (n + length (policy_nodes n a)) b) whole)
