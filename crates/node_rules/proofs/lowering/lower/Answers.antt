@@ -21,12 +21,6 @@ returns-in-Conjunction c = rw c.in-Conjunction.is
 pub returns-in-Disjunction : goal.returns-in-Disjunction
 returns-in-Disjunction c = rw c.in-Disjunction.is
 
-pub returns-in-Now : goal.returns-in-Now
-returns-in-Now c = rw (c.in-Now.is, c.set_at.ensures)
-
-pub returns-in-Holds : goal.returns-in-Holds
-returns-in-Holds c = rw (c.in-Holds.is, c.others.ensures, c.set_at-in-Holds.ensures)
-
 pub returns-in-Count : goal.returns-in-Count
 returns-in-Count c = rw c.in-Count.is
 
