@@ -1,4 +1,6 @@
 // How far the reading of a text has come, in one number; a word taken from it; and a node closed after its parts.
+#![tactic(auto)]
+
 use grammar::{Category, Token};
 
 mod closing;
