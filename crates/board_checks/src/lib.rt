@@ -1,4 +1,6 @@
 // What a call of the board finds before anything is done: its checks in their order, over one pass of the places.
+#![tactic(auto)]
+
 mod asking;
 mod targets;
 
