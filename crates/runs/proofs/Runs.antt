@@ -2,14 +2,13 @@
 -- How an area holds the tables is not spoken of.
 -- Assumes nothing.
 use mathlib.Core.Path.{◌≡◌, refl, sym, ◌∙◌, ap}
-use mathlib.Core.Bool.{true, false}
 use mathlib.Core.List.{List}
 use mathlib.Core.Logic.{◌↔◌}
 use Prim.Native.Nat.{ℕ, ◌<◌}
 use native.Mathlib.Omega.{arith}
 use Rattle.base.specs.Sets.{Member}
 use Rattle.trace.proofs.Laws.{not-both}
-use Rattle.table.specs.Table.{type_of, verdict}
+use Rattle.table.specs.Table.{type_of}
 use Rattle.view.specs.View.{View, Change}
 use Rattle.view.specs.Steps.{act, Reply, permitted, denied, changes}
 use Rattle.runs.specs.Events.{Event, rule, on_place}
