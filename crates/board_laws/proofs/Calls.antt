@@ -9,7 +9,7 @@ use Prim.Native.Nat.{ℕ, ◌≤◌}
 use lib.ListN.{get_or}
 use Rattle.places.specs.Layout.{place_count, area_length, LongEnough}
 use Rattle.places.specs.declared.Board.{Board}
-use Rattle.view.specs.View.{View, view_of, Change, stays, board_after, area_after}
+use Rattle.view.specs.View.{View, view_of, Change, board_after, area_after}
 use Rattle.view.specs.Steps.{Call, act, Reply, changes, is_refusal, checks_of, Passes, AllPass, Carries, is-denied, is-permitted}
 use Rattle.view.specs.Calls.{CallsWith, Makes, made, make-14}
 use Rattle.view.proofs.StepLaws.{Ends, is-refused, is_carried, ends, step-determined, step-exactly, step-unchanged}

@@ -1,1 +1,2 @@
 // Histories of a board and its area. Pure definitions and theorems.
+#![tactic(auto)]
