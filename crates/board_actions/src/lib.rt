@@ -1,4 +1,6 @@
 // The calls of the board that read an action: denied by the lowest place that denies it, or permitted, with every rule moved.
+#![tactic(auto)]
+
 ghost use Rattle.std.specs.Prelude.{◌≡◌, ◌<◌};
 ghost use Rattle.base.specs.Sets.{LowestIn};
 ghost use Rattle.view.specs.Steps.{act};
