@@ -1,4 +1,6 @@
 // Joining: one table for several, which denies exactly where at least one of them denies. Definitions of what it gives are in specs/Joins.antt.
+#![tactic(auto)]
+
 mod call;
 mod reading;
 
