@@ -1,4 +1,6 @@
 // The calls of the board that make it, put a table on and take one off.
+#![tactic(auto)]
+
 mod calls;
 
 pub use calls::{new_board, put_on, take_off};
