@@ -1,4 +1,6 @@
 // The compiler: from a rule sheet to its table. Definitions of what it gives are in specs/Calling.antt.
+#![tactic(auto)]
+
 mod building;
 mod call;
 mod refusals;
