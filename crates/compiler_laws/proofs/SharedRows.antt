@@ -2,10 +2,10 @@
 -- continuation trips after both or after neither, said of the policy.
 -- Assumes nothing.
 use mathlib.Core.Path.{◌≡◌, sym, ◌∙◌, subst}
-use mathlib.Core.Bool.{Bool, false}
+use mathlib.Core.Bool.{false}
 use mathlib.Core.List.{List}
 use mathlib.Core.Logic.{◌↔◌}
-use Prim.Native.Nat.{ℕ, ◌-◌, ◌≤◌}
+use Prim.Native.Nat.{ℕ, ◌≤◌}
 use Rattle.trace.specs.Trace.{Sequence, go, run}
 use Rattle.trace.specs.Limits.{SameRow}
 use Rattle.limits.specs.declared.Limits.{Limits}
@@ -14,7 +14,6 @@ use Rattle.automaton.proofs.MinimalRows.{share-row-exactly}
 use Rattle.table.specs.Table.{row_step, entries_of}
 use Rattle.table.specs.Answer.{accepted}
 use Rattle.syntax.specs.declared.Sheet.{Sheet}
-use Rattle.node_rules.specs.Nodes.{trips_node}
 use Rattle.compiler.specs.Compiles.{Compiles}
 use Rattle.compiler_laws.specs.Demands.{ReadAs, trips_sheet}
 use Rattle.compiler_laws.proofs.CompiledTable.{TableOf, compiled-table}
