@@ -9,14 +9,11 @@ use native.Mathlib.Omega.{arith}
 use lib.Bits.{bit_or}
 use lib.ListN.{length}
 use borrow.Author.Tests.{le-leb, lt-leb}
-use types.Run.{OneOf, miss}
-use denote.Enum.Declared.{tag_of}
 use Rattle.fields.specs.Fields.{split_by, fields_from, between, EndsField}
 use Rattle.grammar.specs.Words.{Word}
 use Rattle.grammar.specs.Spelling.{same, token_of, whether}
 use Rattle.grammar.specs.declared.Token.{Token}
 use Rattle.grammar.specs.declared.Token.TheVariants.{Watch, Enforce, Now, Holds, Count, Not, And, Or, Eventually, Always, Before, After, Fulfilling, Ignoring, True, False, Proposition, Number, Other}
-use Rattle.grammar.specs.contracts.Token as tokens
 use Rattle.action_lists.specs.declared.SetRead.TheVariants.{Set, Wrong}
 use Rattle.action_lists.specs.ActionLists.{proposition_of, with_all, set_of}
 
@@ -26,13 +23,10 @@ unfolding proposition_of token_of whether
 empty-none [] h = refl
 empty-none (byte ∷ rest) h = absurd (omega arith)
 
--- The numbers of the other tokens, in the order of their declaration. A token with one of them is no proposition.
-abbrev others : List ℕ
-others = 0 ∷ 1 ∷ 2 ∷ 3 ∷ 4 ∷ 5 ∷ 6 ∷ 7 ∷ 8 ∷ 9 ∷ 10 ∷ 11 ∷ 12 ∷ 13 ∷ 14 ∷ 15 ∷ 17 ∷ 18 ∷ []
-
-pub not-proposition : (token : Token) → OneOf others (tag_of tokens.the_type token) → proposition_of token ≡ 100
+-- A token that is no proposition is read as none.
+pub not-proposition : (token : Token) → ((p : ℕ) → token ≡ Proposition p → ⊥) → proposition_of token ≡ 100
 unfolding proposition_of
-not-proposition (Proposition p) o = absurd (miss others 16 tt o)
+not-proposition (Proposition p) o = absurd (o p refl)
 not-proposition Watch o = refl
 not-proposition Enforce o = refl
 not-proposition Now o = refl

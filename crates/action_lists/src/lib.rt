@@ -1,4 +1,6 @@
 // Action lists (specs/ActionLists.antt), and lists of actions that are asked about (specs/AskedLists.antt).
+#![tactic(auto)]
+
 mod actions;
 mod asked;
 mod names;

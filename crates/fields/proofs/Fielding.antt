@@ -1,17 +1,15 @@
 -- What a scan for a mark knows of the field that it goes along, and of those after it.
 -- Assumes nothing.
 use mathlib.Core.Path.{◌≡◌, refl, sym, ◌∙◌}
-use mathlib.Core.Bool.{Bool, true, false, cond}
-use mathlib.Core.List.{List, [], ◌∷◌, ◌++◌}
+use mathlib.Core.List.{List, [], ◌∷◌}
 use Prim.Native.Nat.{ℕ, zero, suc, ◌+◌, ◌-◌, ◌≤◌, ◌<◌}
 use native.Mathlib.Decide.{ℕ_discrete}
 use native.Mathlib.Numerals.{add-one}
 use native.Mathlib.Omega.{arith}
 use borrow.Author.Tests.{eq-eqb, ne_eqb}
-use lib.Dec.{eqb}
 use lib.ListN.{length, get_or, take, drop, drop_of_length-le}
 use lib.Seq.{drop-cons, take-nil}
-use Rattle.fields.specs.Fields.{lengthen_first, split_by, fields_from, between, EndsField, FieldAt}
+use Rattle.fields.specs.Fields.{lengthen_first, split_by, fields_from, between, EndsField}
 
 -- the fields of bytes that begin with a mark, or with another byte
 pub mark-ahead : (mark byte : ℕ) (rest : List ℕ) → byte ≡ mark → split_by mark (byte ∷ rest) ≡ [] ∷ split_by mark rest

@@ -1,4 +1,6 @@
 // Where the words of a text stand.
+#![tactic(auto)]
+
 ghost use Rattle.std.specs.Prelude.{◌≡◌, [], get_or};
 ghost use Rattle.grammar.specs.Words.{words_of};
 ghost use Rattle.positions.specs.Positions.{WordAt};

@@ -1,4 +1,6 @@
 // Rule files: the action list in the first line, and after it the rules, separated by lines that have the one word `---`.
+#![tactic(auto)]
+
 ghost use Rattle.std.specs.Prelude.{◌≡◌, ◌≤◌, min, eqb, length, take, get_or};
 ghost use Rattle.fields.specs.Fields.{split_by};
 ghost use Rattle.rule_lines.specs.RuleFiles.{is_separator, RuleEnds, NextLine, Trims};

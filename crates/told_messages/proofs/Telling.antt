@@ -1,8 +1,8 @@
 -- Laws of what is told: with a word or without, of a rule that has a number or none, by the number of a category or of a refusal.
 -- Assumes nothing.
-use mathlib.Core.Path.{◌≡◌, refl, sym, ap, ◌∙◌}
-use mathlib.Core.Bool.{Bool, true, false, not}
-use mathlib.Core.List.{List, [], ◌∷◌, ◌++◌}
+use mathlib.Core.Path.{◌≡◌, refl, sym, ◌∙◌}
+use mathlib.Core.Bool.{not}
+use mathlib.Core.List.{List, [], ◌∷◌}
 use Prim.Native.Nat.{ℕ, zero, suc, ◌+◌, ◌≤◌, ◌<◌}
 use native.Mathlib.Omega.{arith}
 use borrow.Author.Tests.{ne_eqb}
@@ -12,7 +12,7 @@ use lib.Seq.{get_or-drop}
 use Rattle.grammar.specs.declared.Category.{Category}
 use Rattle.grammar.specs.declared.Category.TheVariants.{Text, Watched, Enforced, Formula, Number, End}
 use Rattle.messages.specs.Message.{filled}
-use Rattle.catalogue.specs.Catalogue.{rule_number, nothing_comes, catalogue, message_of}
+use Rattle.catalogue.specs.Catalogue.{rule_number, catalogue, message_of}
 use Rattle.told_messages.specs.Misfits.{category_number}
 use Rattle.told_messages.specs.Told.{rule_text, expected_message, with_word, is_there, sheet_messages}
 

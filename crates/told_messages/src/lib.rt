@@ -1,5 +1,7 @@
 // What an operator is told of a rule, a list of actions or a sheet: texts as definitions (specs/Told.antt), written into a lent area (crate messages) from
 // the messages of crate catalogue.
+#![tactic(auto)]
+
 mod misfits;
 mod told;
 

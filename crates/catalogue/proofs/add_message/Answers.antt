@@ -3,7 +3,6 @@ use mathlib.Core.Path.{◌≡◌, refl, ap}
 use mathlib.Core.Bool.{true}
 use mathlib.Core.List.{List}
 use Prim.Native.Nat.{ℕ}
-use borrow.Author.Rules.{rules}
 use Rattle.fields.specs.Fields.{all_unmarked}
 use Rattle.fields.proofs.Listed.{listed_at}
 use Rattle.messages.specs.Message.{filled}

@@ -1,11 +1,9 @@
 -- The goals of `fields::field_at` that the check leaves.
 use mathlib.Core.Path.{◌≡◌, refl, sym, ◌∙◌}
-use mathlib.Core.List.{[]}
-use Prim.Native.Nat.{◌≤◌, ◌<◌}
+use Prim.Native.Nat.{◌<◌}
 use native.Mathlib.Omega.{arith}
-use lib.ListN.{length, get_or}
+use lib.ListN.{length}
 use borrow.Author.Rules.{rules}
-use Rattle.fields.specs.Fields.{split_by, fields_from}
 use Rattle.fields.proofs.Fielding.{none_between, first_field, next_field, no_field}
 use Rattle.fields.proofs.field_at.Goals as goal
 

@@ -1,12 +1,9 @@
 -- `fields::field_at` meets its contract. The loop's invariant: from `from` on the field after `left` others is the one that is looked for.
-use mathlib.Core.Path.{◌≡◌, refl, sym, ◌∙◌}
+use mathlib.Core.Path.{◌≡◌}
 use mathlib.Core.List.{[]}
-use Prim.Native.Nat.{◌≤◌, ◌<◌}
-use native.Mathlib.Omega.{arith}
+use Prim.Native.Nat.{◌≤◌}
 use lib.ListN.{length, get_or}
-use borrow.Author.Rules.{rules}
 use Rattle.fields.specs.Fields.{split_by, fields_from}
-use Rattle.fields.proofs.Fielding.{none_between, first_field, next_field, no_field}
 use Rattle.fields.proofs.field_at.Given as goal
 
 abbrev pub invariant-loop-left : goal.invariant-loop-left

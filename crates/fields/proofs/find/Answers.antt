@@ -1,9 +1,6 @@
 -- The goals of `fields::find` that the check leaves.
-use Prim.Native.Nat.{ℕ, ◌-◌, ◌≤◌}
 use native.Mathlib.Omega.{arith}
-use lib.ListN.{length}
 use borrow.Author.Rules.{rules}
-use Rattle.fields.specs.Fields.{EndsField}
 use Rattle.fields.proofs.Fielding.{ends-at-mark, ends-with-bytes, ends-longer}
 use Rattle.fields.proofs.find.Goals as goal
 

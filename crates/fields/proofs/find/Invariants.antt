@@ -1,10 +1,7 @@
 -- `fields::find` meets its contract. The loop's invariant: where the field from k on ends, that from `from` on ends.
 use Prim.Native.Nat.{ℕ, ◌-◌, ◌≤◌}
-use native.Mathlib.Omega.{arith}
 use lib.ListN.{length}
-use borrow.Author.Rules.{rules}
 use Rattle.fields.specs.Fields.{EndsField}
-use Rattle.fields.proofs.Fielding.{ends-at-mark, ends-with-bytes, ends-longer}
 use Rattle.fields.proofs.find.Given as goal
 
 abbrev pub invariant-loop-k : goal.invariant-loop-k

@@ -2,7 +2,6 @@
 use mathlib.Core.Path.{sym}
 use native.Mathlib.Omega.{arith}
 use lib.Seq.{take_all, length-take-le}
-use borrow.Author.Rules.{rules}
 use Rattle.fields.proofs.front.Goals as goal
 
 pub returns-then-bytes-count : goal.returns-then-bytes-count

@@ -1,10 +1,8 @@
 -- The goals of `fields::marks_in` that the check leaves.
-use mathlib.Core.Path.{◌≡◌, refl}
-use Prim.Native.Nat.{◌+◌, ◌-◌, ◌≤◌, ◌<◌}
+use Prim.Native.Nat.{◌<◌}
 use native.Mathlib.Omega.{arith}
 use lib.ListN.{length}
 use borrow.Author.Rules.{rules}
-use Rattle.fields.specs.Fields.{split_by, fields_from}
 use Rattle.fields.proofs.Fielding.{fields-more, fields-last}
 use Rattle.fields.proofs.marks_in.Goals as goal
 

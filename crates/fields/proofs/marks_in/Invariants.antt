@@ -1,11 +1,8 @@
 -- `fields::marks_in` meets its contract. The loop's invariant: the fields are the marks so far and the fields from here on.
-use mathlib.Core.Path.{◌≡◌, refl}
-use Prim.Native.Nat.{◌+◌, ◌-◌, ◌≤◌, ◌<◌}
-use native.Mathlib.Omega.{arith}
+use mathlib.Core.Path.{◌≡◌}
+use Prim.Native.Nat.{◌+◌, ◌-◌, ◌≤◌}
 use lib.ListN.{length}
-use borrow.Author.Rules.{rules}
 use Rattle.fields.specs.Fields.{split_by, fields_from}
-use Rattle.fields.proofs.Fielding.{fields-more, fields-last}
 use Rattle.fields.proofs.marks_in.Given as goal
 
 abbrev pub invariant-loop-mark : goal.invariant-loop-mark

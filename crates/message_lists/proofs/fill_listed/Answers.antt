@@ -2,7 +2,6 @@
 use mathlib.Core.Path.{ap}
 use mathlib.Core.List.{List}
 use Prim.Native.Nat.{ℕ}
-use borrow.Author.Rules.{rules}
 use Rattle.messages.specs.Message.{filled}
 use Rattle.messages.proofs.Adding.{adds-as}
 use Rattle.message_lists.proofs.fill_listed.Goals as goal

@@ -1,0 +1,15 @@
+-- `action_lists::names::action_named` meets its contract. The loop's invariant: the words so far have other names.
+use mathlib.Core.Path.{◌≡◌}
+use Prim.Native.Nat.{◌+◌, ◌-◌, ◌≤◌}
+use lib.ListN.{length}
+use Rattle.grammar.specs.Words.{words_of}
+use Rattle.lexer.specs.Next.{words_from}
+use Rattle.action_lists.specs.ActionLists.{action_named}
+use Rattle.action_lists.proofs.names.action_named.Given as goal
+
+abbrev pub invariant-loop-number : goal.invariant-loop-number
+invariant-loop-number l =
+    (l.at ≤ length l.list) × (l.number ≤ l.at) × (action_named (words_of l.list) l.name ≡ l.number + action_named (words_from l.list l.at) l.name)
+
+abbrev pub decreases-loop-number : goal.decreases-loop-number
+decreases-loop-number l = length l.list - l.at
