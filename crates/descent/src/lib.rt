@@ -1,4 +1,6 @@
 // Reading by recursive descent: a reader for each category of the language (crate grammar), which call each other.
+#![tactic(auto)]
+
 mod readers;
 
 pub use readers::read_rule;

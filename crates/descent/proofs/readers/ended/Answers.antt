@@ -1,0 +1,11 @@
+-- `descent::readers::ended` meets its contract.
+use Rattle.parser_state.specs.Packed.{progress_of}
+use Rattle.descent.proofs.Arms.{word-taken, none-taken, ended-not, ended-over}
+use Rattle.descent.proofs.readers.ended.Goals as goal
+
+pub returns-in_default : goal.returns-in_default
+returns-in_default c =
+    ended-over c.args.text.now (progress_of c.args.p) (none-taken c.take_word.ensures c.in_default.is)
+
+pub returns : goal.returns
+returns c = ended-not (word-taken c.take_word.ensures c.in-Word.is) c.stuck.ensures
