@@ -1,5 +1,7 @@
 // Explaining a denial: the first denied action of a list, and the part of the rule that denies it. Definitions of what it gives are in
 // specs/Explains.antt.
+#![tactic(auto)]
+
 mod call;
 mod reading;
 

@@ -1,0 +1,113 @@
+-- `explaining::call::find_denial` meets its contract: 34, 12, no denial, or the first denied action and the node that is named for it.
+use mathlib.Core.Path.{◌≡◌, refl, sym, subst}
+use mathlib.Core.List.{List}
+use Prim.Native.Nat.{ℕ, suc, ◌+◌}
+use native.Mathlib.Numerals.{add-one}
+use native.Mathlib.Omega.{arith}
+use lib.ListN.{take}
+use lib.Seq.{length-take-le}
+use Rattle.base.specs.Build.{Decides}
+use Rattle.trace.specs.Trace.{Sequence}
+use Rattle.trace.specs.declared.Mode.{Mode}
+use Rattle.trace.specs.declared.Mode.TheVariants.{Enforced}
+use Rattle.table.specs.Answer.{mode_number}
+use Rattle.policy.proofs.Congruent.{sequence-take}
+use Rattle.explaining.specs.Denials.{policy_node, FirstDenied}
+use Rattle.explaining.specs.Explains.{Explanation, no-denial, denied, refused, Finds, no-action, none-denied, first-denied}
+use Rattle.explaining.specs.Reading.{FindsBy, LowestTrips, Standing}
+use Rattle.explaining.proofs.Walks.{not-sequence}
+use Rattle.reached.proofs.NodeSets.{all-earlier}
+use Rattle.explaining.proofs.Findings.{walkable, namable, none-denied-by, first-denied-by, lowest-violated}
+use Rattle.explaining.proofs.Standing.{watched-mode, enforced-mode}
+use Rattle.explaining.proofs.call.find_denial.Goals as goal
+use Rattle.explaining.proofs.call.find_denial.Goals.{After-reached_by_and-set, Else-outside, Else-watched, Start}
+
+pub returns-then-watched : goal.returns-then-watched
+returns-then-watched c =
+    let e = watched-mode c.args.mode (subst (Decides (mode_number c.args.mode ≡ 2)) c.if-watched.true c.is_watched-watched.ensures) in
+    rw e (refl, refl)
+
+-- the sheet is enforced
+module _ (c : Else-watched) where
+  abbrev start : Start
+  start = (goal.at.Else-watched c).Start
+
+  abbrev list : List ℕ
+  list = start.args.list.now
+
+  enforced : start.args.mode ≡ Enforced
+  enforced = enforced-mode start.args.mode (subst (Decides (mode_number start.args.mode ≡ 2)) c.if-watched.false c.is_watched-watched.ensures)
+
+  stands : Standing Enforced start.args.sheet start.args.work.now
+  stands = subst (λ (m : Mode). Standing m start.args.sheet start.args.work.now) enforced start.requires
+
+  found : (answer : Explanation) {written : List ℕ} → Finds start.args.sheet list answer written → FindsBy start.args.mode start.args.sheet list answer written
+  found answer {written} f = subst (λ (m : Mode). FindsBy m start.args.sheet list answer written) (sym enforced) f
+
+pub returns-then-outside : goal.returns-then-outside
+returns-then-outside c =
+    let e = (goal.at.returns-then-outside c).Else-watched in
+    found e (refused 12 0) (no-action (not-sequence _ (list e) (rw (c.if-outside.true) at e.all_actions-outside.ensures)))
+
+-- the list is one of actions
+module _ (c : Else-outside) where
+  abbrev mine : Else-watched
+  mine = (goal.at.Else-outside c).Else-watched
+
+  sequence : Sequence (start mine).args.sheet.actions (list mine)
+  sequence =
+      subst (Decides (Sequence (start mine).args.sheet.actions (list mine))) c.if-outside.false
+      mine.all_actions-outside.ensures
+
+pub first_trip-place-requires : goal.first_trip-place-requires
+first_trip-place-requires c = walkable (stands (mine c)) (list (mine c)) (sequence c)
+
+pub returns-then-place-list : goal.returns-then-place-list
+returns-then-place-list c =
+    let q = (goal.at.returns-then-place-list c).Else-outside in
+    let e = mine q in
+    found e no-denial (none-denied (sequence q) (none-denied-by (stands e) (list e) (sequence q) c.first_trip-place.ensures c.if-place-list.true))
+
+pub reached_by_and-set-requires : goal.reached_by_and-set-requires
+reached_by_and-set-requires c =
+    let e = mine (goal.at.reached_by_and-set-requires c).Else-outside in
+    let f = (stands e).right.formed in record { from_bound = omega (arith, f.few-nodes, f.some-node); parts_earlier = all-earlier _ f }
+
+-- an action is denied
+module _ (c : After-reached_by_and-set) where
+  abbrev all : Else-outside
+  all = (goal.at.After-reached_by_and-set c).Else-outside
+
+  abbrev own : Else-watched
+  own = mine all
+
+  abbrev place : ℕ
+  place = c.first_trip-place.result
+
+  first : FirstDenied (start own).args.sheet (list own) place
+  first = first-denied-by (stands own) (list own) (sequence all) c.first_trip-place.ensures c.if-place-list.false
+
+  abbrev front : List ℕ
+  front = take (suc place) (list own)
+
+  fronts : Sequence (start own).args.sheet.actions front
+  fronts = sequence-take (start own).args.sheet.actions (suc place) (list own) (sequence all)
+
+pub slice_bounds-lowest_tripped-end : goal.slice_bounds-lowest_tripped-end
+slice_bounds-lowest_tripped-end c =
+    sym (length-take-le (place c + 1) (list (own c)) (omega (arith, (first c).inside)))
+
+pub lowest_tripped-node-requires : goal.lowest_tripped-node-requires
+lowest_tripped-node-requires c =
+    rw (c.reached_by_and-set.ensures, add-one (place c)) (namable (stands (own c)) (front c) (fronts c))
+
+pub returns : goal.returns
+returns c =
+    let r = (goal.at.returns c).After-reached_by_and-set in
+    let z = start (own r) in
+    found (own r) (denied (place r) c.lowest_tripped-node.result)
+    (first-denied (sequence (all r)) (place r) _ (first r)
+    (lowest-violated (stands (own r)) (front r) (fronts r) (first r).denied
+    (subst (λ (set : ℕ). LowestTrips z.args.work.now set (policy_node z.args.sheet) z.args.sheet.actions (front r) c.lowest_tripped-node.result) r.reached_by_and-set.ensures
+    (subst (λ (k : ℕ). LowestTrips z.args.work.now r.reached_by_and-set.result (policy_node z.args.sheet) z.args.sheet.actions (take k (list (own r))) c.lowest_tripped-node.result)
+    (add-one (place r)) c.lowest_tripped-node.ensures))))
