@@ -1,4 +1,6 @@
 // The answers of the board's calls, each as one number of 64 bits. specs/Numbers.antt says which field means what.
+#![tactic(auto)]
+
 ghost use Rattle.board.specs.Replies.{made_reply, put_reply, take_reply};
 ghost use Rattle.board_actions.specs.Replies.{act_reply};
 ghost use Rattle.board_answers.specs.Numbers.{AnswerIs};
