@@ -1,4 +1,6 @@
 // What compiling answers, as text.
+#![tactic(auto)]
+
 ghost use Rattle.std.specs.Prelude.{◌≡◌, length};
 ghost use Rattle.limits.specs.Lengths.{work_length, numbers_length};
 ghost use Rattle.table.specs.Table.{largest_table};
