@@ -1,1 +1,2 @@
 // A board whose rules are compiled from sheets. Pure definitions and theorems.
+#![tactic(auto)]
