@@ -1,4 +1,6 @@
 // Reading a rule text as a sheet: the public call.
+#![tactic(auto)]
+
 use grammar::Category;
 
 mod call;
