@@ -1,1 +1,2 @@
 // What explaining gives, as theorems: each answer, the place, the node that is named, and boards. Definitions and laws only.
+#![tactic(auto)]
