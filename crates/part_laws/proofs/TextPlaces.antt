@@ -124,10 +124,10 @@ module _ (bytes : List ℕ) (sheet : Sheet) (read : ReadFrom bytes sheet) where
       one n (formula_nodes n f) Negation (formula (negation f)) (λ i. refl) (λ i. refl) c s (formula-whole n (negation f) s) (formula-grown n f)
   formula-grown n (conjunction f g) c s =
       two n (formula_nodes n f) (formula_nodes _ g) Conjunction (formula (conjunction f g)) (λ i j. refl) (λ i j. refl) c s (formula-whole n (conjunction f g) s)
-      (formula-grown n f) (formula-grown _ g)
+      (formula-grown n f) (formula-grown (n + length (formula_nodes n f)) g)
   formula-grown n (disjunction f g) c s =
       two n (formula_nodes n f) (formula_nodes _ g) Disjunction (formula (disjunction f g)) (λ i j. refl) (λ i j. refl) c s (formula-whole n (disjunction f g) s)
-      (formula-grown n f) (formula-grown _ g)
+      (formula-grown n f) (formula-grown (n + length (formula_nodes n f)) g)
 
   -- over one policy, and over two
   abbrev Grows : Policy → Type 0
@@ -166,10 +166,11 @@ module _ (bytes : List ℕ) (sheet : Sheet) (read : ReadFrom bytes sheet) where
       pair n a b AfterPlus (after+ a b) (λ i j. refl) (λ i j. refl) c s (policy-whole n (after+ a b) s) (λ i. policy-grown i a) (λ i. policy-grown i b)
   policy-grown n (fulfilling k a b d) c s =
       three n (policy_nodes n a) (policy_nodes _ b) (policy_nodes _ d) (Fulfilling k) (policy (fulfilling k a b d)) (λ i j l. refl) (λ i j l. refl) c s
-      (policy-whole n (fulfilling k a b d) s) (policy-grown n a) (policy-grown _ b) (policy-grown _ d)
+      (policy-whole n (fulfilling k a b d) s) (policy-grown n a) (policy-grown (n + length (policy_nodes n a)) b)
+      (policy-grown (n + length (policy_nodes n a) + length (policy_nodes (n + length (policy_nodes n a)) b)) d)
   policy-grown n (ignoring f b) c s =
       two n (formula_nodes n f) (policy_nodes _ b) Ignoring (policy (ignoring f b)) (λ i j. refl) (λ i j. refl) c s (policy-whole n (ignoring f b) s)
-      (formula-grown n f) (policy-grown _ b)
+      (formula-grown n f) (policy-grown (n + length (formula_nodes n f)) b)
 
 -- The sheet of a policy, held by bytes: its nodes are the words of the policy's text, one tree.
 module _ (actions : List ℕ) (p : Policy) (bytes : List ℕ) (read : ReadFrom bytes (sheet_for actions p)) where
