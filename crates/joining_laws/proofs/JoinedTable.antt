@@ -1,15 +1,15 @@
 -- The table of a join is accepted and enforced, has the answer's actions and rows, and denies exactly where at least one of its tables denies;
 -- and demand 3 for joins.
 -- Assumes nothing.
-use mathlib.Core.Path.{◌≡◌, refl, sym, ◌∙◌, ap, subst}
-use mathlib.Core.Bool.{true, false, not}
+use mathlib.Core.Path.{◌≡◌, refl, sym, ◌∙◌, subst}
+use mathlib.Core.Bool.{true, false}
 use mathlib.Core.List.{List}
 use mathlib.Core.Logic.{◌↔◌}
 use Prim.Native.Nat.{ℕ, ◌≤◌, ◌<◌}
 use native.Mathlib.Omega.{arith}
 use Rattle.trace.specs.Trace.{Sequence, trips}
 use Rattle.limits.specs.declared.Limits.{Limits}
-use Rattle.table.specs.Table.{type_of, actions_of, rows_of, row_step, WellFormed, Accepted, verdict, SameVerdicts}
+use Rattle.table.specs.Table.{actions_of, rows_of, row_step, WellFormed, Accepted, verdict, SameVerdicts}
 use Rattle.table.specs.Answer.{accepted as accepts}
 use Rattle.table.proofs.Verdicts.{equal-exactly-when-same-verdicts, accepted-has-fewest-rows}
 use Rattle.making.proofs.TableBytes.{MadeOf, made_of}
@@ -19,7 +19,7 @@ use Rattle.joining.specs.Joins.{Meets, joins, Joins, meets}
 use Rattle.joining_laws.specs.Answers.{Joinable}
 use Rattle.joining_laws.specs.Conjunction.{AllSatisfied, SomeDenies, SameJoinsSatisfied, SatisfiedWhere, JoinedTable}
 use Rattle.joining_laws.proofs.SomeTrips.{same_truth, some-trips-exactly, none-trips-exactly}
-use Rattle.joining_laws.proofs.Enforced.{enforced-verdict, satisfied-exactly, denies-exactly}
+use Rattle.joining_laws.proofs.Enforced.{satisfied-exactly, denies-exactly}
 use Rattle.joining_laws.proofs.Outcome.{some-actions, few-actions}
 
 module _ {count : ℕ} {input : List ℕ} {limits : Limits} (small : limits.rows ≤ 64) where

@@ -34,7 +34,7 @@ module _ (u w : List ℕ) where
   abbrev pub OneRow : List ℕ → Type 0
   OneRow table = run (row_step table) (go 0) u ≡ run (row_step table) (go 0) w
 
-  each_row : {tables : List (List ℕ)} {table : List ℕ} → AmongTables table tables → rows_after tables u ≡ rows_after tables w → OneRow table
+  each_row : {table : List ℕ} {tables : List (List ℕ)} → AmongTables table tables → rows_after tables u ≡ rows_after tables w → OneRow table
   each_row (Memᴰ.head {x = x} {xs} e) q =
       let first : OneRow x = cc (q) in subst OneRow (sym e) first
   each_row (Memᴰ.tail {x = x} {xs} m) q = let rest : rows_after xs u ≡ rows_after xs w = cc (q) in each_row m rest

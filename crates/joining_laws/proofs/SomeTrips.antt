@@ -35,8 +35,8 @@ module _ (w : List ℕ) where
     pub trips-it : trips (row_step table) 0 w ≡ true
 
   -- Where a table of a list trips, at least one of the list does.
-  pub member-trips : {tables : List (List ℕ)} {table : List ℕ} → AmongTables table tables → trips (row_step table) 0 w ≡ true → some_trips tables w ≡ true
-  member-trips {tables} (Memᴰ.head {x = x} {xs} e) t =
+  pub member-trips : {table : List ℕ} {tables : List (List ℕ)} → AmongTables table tables → trips (row_step table) 0 w ≡ true → some_trips tables w ≡ true
+  member-trips (Memᴰ.head {x = x} {xs} e) t =
       either_true (trips (row_step x) 0 w) (some_trips xs w) (inl (subst (λ (l : List ℕ). trips (row_step l) 0 w ≡ true) e t))
   member-trips (Memᴰ.tail {x = x} {xs} m) t = either_true (trips (row_step x) 0 w) (some_trips xs w) (inr (member-trips m t))
 
