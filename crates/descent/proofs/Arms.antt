@@ -2,7 +2,7 @@
 -- Assumes nothing.
 use mathlib.Core.Path.{◌≡◌, refl, sym, ap, subst, ◌∙◌}
 use mathlib.Core.List.{List, [], ◌∷◌, ◌++◌}
-use Prim.Native.Nat.{ℕ, ◌+◌, ◌≤◌, ◌<◌}
+use Prim.Native.Nat.{ℕ, ◌+◌, ◌≤◌}
 use native.Mathlib.Omega.{arith}
 use lib.ListN.{length}
 use Rattle.syntax.specs.declared.Node.{Node}
@@ -18,15 +18,15 @@ use Rattle.grammar.specs.declared.Token.TheVariants.{Number as NumberToken}
 use Rattle.grammar.proofs.Tokens.{Spelled, token-spelled}
 use Rattle.lexer.specs.Next.{words_from}
 use Rattle.parser_state.specs.Packed.{progress_of}
-use Rattle.parser_state.specs.Progress.{root_of, stuck_at, Sane, Here, Exhausted, Takes, Closes, Closable}
-use Rattle.descent.specs.Parsing.{unread, CanRead, Parses, TookNumber, ParsesNumber, ParsesEnd, ends as at-end, goes_on}
+use Rattle.parser_state.specs.Progress.{root_of, stuck_at, Sane, Here, Exhausted, Takes, Closes}
+use Rattle.descent.specs.Parsing.{unread, Parses, TookNumber, ParsesNumber, ParsesEnd, ends as at-end, goes_on}
 use Rattle.parser_state.specs.Progress.Takes.{word as takes-word, nothing as takes-nothing}
 use Rattle.descent.specs.Parsing.TookNumber.{takes, sticks}
 use Rattle.parser_state.specs.declared.Taken.{Taken}
 use Rattle.parser_state.specs.declared.Taken.TheVariants.{Word as taken, Nothing as nothing-taken}
 use Rattle.parser_state.specs.declared.Progress.{Progress}
 use Rattle.parser_state.specs.declared.Progress.TheVariants.{Going, Stuck}
-use Rattle.descent.proofs.Parts.{stuck-here, stuck-still, sane-next, less-next, no_part, one-part, two-parts, number-part, three-parts}
+use Rattle.descent.proofs.Parts.{stuck-here, stuck-still, sane-next, no_part, one-part, two-parts, number-part, three-parts}
 
 -- What a word that was taken says, and that none was.
 pub word-taken : {text : List ℕ} {p : Progress} {t : Taken} {token : Token} {behind : ℕ} → Takes text p t → t ≡ taken token behind
@@ -68,12 +68,6 @@ module _ {text : List ℕ} {p : Progress} {token : Token} {behind : Progress} (h
 
   pub sane-behind : Sane text behind
   sane-behind = subst (Sane text) (sym h.goes_on) (sane-next text h.sane h.far h.inside h.ahead)
-
-  less-behind : unread text behind < unread text p
-  less-behind =
-      subst (λ (q : Progress). unread text q < unread text p) (sym h.goes_on)
-      (subst (λ (q : Progress). unread text (Going h.next (h.words + 1) h.nodes) < unread text q) (sym h.going)
-      (less-next text h.sane h.far h.inside h.ahead))
 
   ahead-as : {v : Word} → h.this ≡ v → words_from text h.at ≡ v ∷ words_from text h.next
   ahead-as e = h.ahead ∙ ap (λ (v : Word). v ∷ words_from text h.next) e
@@ -176,39 +170,7 @@ module _ {text : List ℕ} {p : Progress} {token : Token} {behind : Progress} (h
       subst (λ (r : Progress). ParsesEnd text p r) (sym (stuck-before q))
       (subst (λ (q : Progress). ParsesEnd text q (Stuck h.words End)) (sym h.going) (goes_on h.this h.next h.ahead))
 
--- A word that was taken, what is lent behind it, and that less is unread there.
-pub record Behind (text : List ℕ) (p : Progress) (room : List ℕ) (t : ℕ) (token : Token) (parts : Progress) : Type 0 where
-  pub here : Here text p token parts
-  pub lent : CanRead text parts room
-  pub less : unread text parts < t
-
-pub behind-word : {text : List ℕ} {p : Progress} {room : List ℕ} {t : ℕ} {found : Taken} {token : Token} {parts : ℕ} → Takes text p found → found ≡ taken token parts
-    → CanRead text p room → unread text p ≡ t → Behind text p room t token (progress_of parts)
-behind-word w e l u =
-    let h = word-taken w e in
-    record { here = h; lent = record { sane = sane-behind h; sixty-four = l.sixty-four }; less = rw u at (less-behind h) }
-
 -- A text ends, or reading was stuck.
 pub ended-over : (text : List ℕ) (p : Progress) → Exhausted text p → ParsesEnd text p p
 ended-over text (Going at words nodes) none = at-end none
 ended-over text (Stuck m d) none = refl
-
--- What is lent behind a part: less is unread.
-module _ {c : Category} {text : List ℕ} {q a : Progress} {before behind : List ℕ} (g : Parses c text q before a behind) where
-  pub lent-then : CanRead text q before → CanRead text a behind
-  lent-then l = record { sane = g.sane; sixty-four = g.sized ∙ l.sixty-four }
-
-  pub less_then : {t : ℕ} → unread text q < t → unread text a < t
-  less_then h = omega (arith, g.onward)
-
--- A number behind the word.
-module _ {text : List ℕ} {q a : Progress} {k : ℕ} (g : ParsesNumber text q a k) where
-  pub lent-number : {room : List ℕ} → CanRead text q room → CanRead text a room
-  lent-number l = record { sane = g.sane; sixty-four = l.sixty-four }
-
-  pub less-number : {t : ℕ} → unread text q < t → unread text a < t
-  less-number h = omega (arith, g.onward)
-
-pub closable : {text : List ℕ} {p : Progress} {room : List ℕ} → CanRead text p room → Closable p room
-closable l =
-    record { few-nodes = omega (arith, l.sane.short, l.sane.inside, l.sane.few_words, l.sane.few-nodes); sixty-four = l.sixty-four }

@@ -19,7 +19,7 @@ use Rattle.descent.specs.Parsing.TookNumber.{takes as number-takes, sticks as nu
 use Rattle.descent.specs.Parsing.Took.{takes, sticks}
 use Rattle.sheet_writer.specs.Writing.{Wrote}
 use Rattle.parser_state.specs.Progress.{longest_text, byte_size, root_of, Sane, Closes}
-use Rattle.descent.specs.Parsing.{unread, Took, TookBy, Parses, TookNumber, ParsesNumber}
+use Rattle.descent.specs.Parsing.{Took, TookBy, Parses, TookNumber, ParsesNumber}
 use Rattle.parser_state.specs.declared.Progress.{Progress}
 use Rattle.parser_state.specs.declared.Progress.TheVariants.{Going, Stuck}
 use Rattle.sheet_writer.proofs.NodesWritten.{wrote_then, wrote_as, wrote_one}
@@ -62,9 +62,6 @@ module _ (text : List ℕ) where
     pub sane-next : Sane text (Going next (words + 1) nodes)
     sane-next =
         record { short = s.short; inside = inside; few_words = omega (arith, s.few_words); few-nodes = omega (arith, s.few-nodes) }
-
-    pub less-next : unread text (Going next (words + 1) nodes) < unread text (Going at words nodes)
-    less-next = omega arith
 
     -- Everything behind the word is read, and closed by a node.
     module _ {c : Category} {before behind : List ℕ} {ws : List Word} {x : Reading c} {to m n : ℕ} where
