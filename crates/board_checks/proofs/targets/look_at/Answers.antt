@@ -11,7 +11,7 @@ use Rattle.scan.specs.Survey.{is_impossible}
 use Rattle.places.specs.declared.Board.{Board}
 use Rattle.scan.proofs.Surveying.{cannot-be, can-be}
 use Rattle.board_checks.proofs.targets.look_at.Goals as goal
-use Rattle.board_checks.proofs.targets.look_at.Goals.{After-scan-scanned, After-taken-on, Else-cannot_be, Start}
+use Rattle.board_checks.proofs.targets.look_at.Goals.{After-scan-scanned, After-taken-on, Start}
 
 module _ (c : After-taken-on) where
   abbrev scan-at : After-scan-scanned
@@ -35,10 +35,9 @@ module _ (c : After-taken-on) where
   on : (b : Bool) → c.taken-on.result ≡ b → taken (case_at board start.args.place) ≡ b
   on b e = ap taken (sym c.case_at.ensures) ∙ sym c.taken-on.ensures ∙ e
 
--- a board that can be
-module _ (c : Else-cannot_be) where
-  can : CanBe place_count (board (goal.at.Else-cannot_be c).After-taken-on) (area (goal.at.Else-cannot_be c).After-taken-on)
-  can = can-be _ _ (scan-at (goal.at.Else-cannot_be c).After-taken-on).scan-scanned.result.found (scan-at (goal.at.Else-cannot_be c).After-taken-on).scan-scanned.ensures.surveys (tested (goal.at.Else-cannot_be c).After-taken-on false c.if-cannot_be.false)
+  -- a board that can be
+  can : c.impossible-cannot_be.result ≡ false → CanBe place_count board area
+  can e = can-be _ _ scan-at.scan-scanned.result.found scan-at.scan-scanned.ensures.surveys (tested false e)
 
 pub returns-then-cannot_be : goal.returns-then-cannot_be
 returns-then-cannot_be c =
@@ -46,9 +45,11 @@ returns-then-cannot_be c =
     (within t, cannot-be _ _ (scan-at t).scan-scanned.result.found (scan-at t).scan-scanned.ensures.surveys (tested t true c.if-cannot_be.true))
 
 pub returns-then-on : goal.returns-then-on
-returns-then-on c = record { within = within (goal.at.returns-then-on c).After-taken-on; can = can (goal.at.returns-then-on c).Else-cannot_be; on = on (goal.at.returns-then-on c).After-taken-on true c.if-on.true }
+returns-then-on c =
+    let t = (goal.at.returns-then-on c).After-taken-on in
+    record { within = within t; can = can t (cc); on = on t true c.if-on.true }
 
 pub returns : goal.returns
 returns c =
     let t = (goal.at.returns c).After-taken-on in
-    record { within = within t; can = can (goal.at.returns c).Else-cannot_be; free = on t false c.if-on.false; surveyed = (scan-at t).scan-scanned.ensures.surveys }
+    record { within = within t; can = can t (cc); free = on t false c.if-on.false; surveyed = (scan-at t).scan-scanned.ensures.surveys }
