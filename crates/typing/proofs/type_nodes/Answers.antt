@@ -2,7 +2,7 @@
 use mathlib.Core.Path.{◌≡◌, refl, ap, sym, ◌∙◌}
 use mathlib.Core.Bool.{true}
 use mathlib.Core.List.{List}
-use Prim.Native.Nat.{ℕ}
+use Prim.Native.Nat.{ℕ, ◌^◌, ◌/◌, ◌%◌}
 use native.Mathlib.Numerals.{add-one}
 use native.Mathlib.Omega.{arith}
 use borrow.Author.Rules.{rules}
@@ -38,7 +38,7 @@ module _ (c : After-type_node) where
   found_as = type_next n types
 
   in_use : bit used n ≡ true
-  in_use = eq-eqb _ 1 c.if-used-i-eq1.true
+  in_use = eq-eqb (used / 2 ^ n % 2) 1 (omega arith)
 
   faulty : (f : Fault) → found_as c.type_node.result ≡ mistyped f types
       → typed_nodes (mistyped f types) ≡ typed_nodes (type_nodes used nodes c.args.count)
@@ -65,8 +65,7 @@ returns-in-TooLong c = let a = (goal.at.returns-in-TooLong c).After-type_node in
 pub loop-n-preserved : goal.loop-n-preserved
 loop-n-preserved c =
     let l = c.loop-n in
-    let z = c in
-    (search rules, rw (add-one l.n) (type-past z.args.used z.args.nodes l.n l.types l.invariant.1 (ne_eqb _ 1 c.if-used-i-eq1.false)))
+    (search rules, rw (add-one l.n) (type-past c.args.used c.args.nodes l.n l.types l.invariant.1 (ne_eqb (c.args.used / 2 ^ l.n % 2) 1 (λ e. omega arith))))
 
 pub returns : goal.returns
 returns c =
