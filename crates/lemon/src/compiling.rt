@@ -14,7 +14,7 @@ use told_messages::following;
 
 // Tables made so far: the number of their actions, 0 where there are none, how many tables, where they end, whether a rule was refused, and the first
 // watched rule with its line, 0 where there is none.
-#[derive(Drop)]
+#[derive(Clone, Copy)]
 pub(crate) struct Made {
     pub actions: usize,
     pub count: usize,
@@ -75,47 +75,54 @@ fn table_length(compiled: Compiled) -> usize
 }
 
 // Notes the propositions of a rule that no action has: it is then about nothing that happens.
-fn note_unheld(sheet: &[u8], actions: &[u16]) {
+fn note_unheld(rt: &HostRuntime, sheet: &[u8], actions: &[u16]) {
     let mut p = 0;
     while p < 16 {
         if unheld(sheet, actions, p) {
-            warn_number(NO_ACTION_HAS, p);
+            warn_number(rt, NO_ACTION_HAS, p);
         }
         p += 1;
     }
 }
 
 // Compiles a sheet to the front of `out`, with work areas of its own.
-pub(crate) fn compile_to(sheet: &[u8], out: &mut [u8]) -> Compiled {
+pub(crate) fn compile_to(rt: &HostRuntime, sheet: &[u8], out: &mut [u8]) -> Compiled {
     let mut work = room_for_bytes();
     let mut values = room_for_values();
     compiler::compile(sheet, out, &mut work, &mut values)
 }
 
 // Compiles a rule's sheet to the front of `out`, and answers the length of the table, 0 where it is refused.
-fn make_sheet(file: &[u8], rule: Rule, sheet: &[u8], out: &mut [u8]) -> usize
+fn make_sheet(rt: &HostRuntime, file: &[u8], rule: Rule, sheet: &[u8], out: &mut [u8]) -> usize
     ensures { result ≤ 1032 }
 {
-    let compiled = compile_to(sheet, out);
+    let compiled = compile_to(rt, sheet, out);
     if let Compiled::Refused(refusal) = compiled {
-        tell_refusal(refusal, file, rule, sheet);
+        tell_refusal(rt, refusal, file, rule, sheet);
         return 0;
     }
     table_length(compiled)
 }
 
 // The same from the rule.
-fn make_rule(file: &[u8], rule: Rule, actions: &[u16], list: &[u8], out: &mut [u8]) -> usize
+fn make_rule(
+    rt: &HostRuntime,
+    file: &[u8],
+    rule: Rule,
+    actions: &[u16],
+    list: &[u8],
+    out: &mut [u8],
+) -> usize
     ensures { result ≤ 1032 }
 {
     let mut room = room_for_sheet();
-    let length = read_rule(file, rule, actions, list, &mut room);
+    let length = read_rule(rt, file, rule, actions, list, &mut room);
     if length == 0 {
         return 0;
     }
     let sheet = front(&room, length);
-    note_unheld(sheet, actions);
-    make_sheet(file, rule, sheet, out)
+    note_unheld(rt, sheet, actions);
+    make_sheet(rt, file, rule, sheet, out)
 }
 
 fn pick(test: bool, yes: usize, no: usize) -> usize {
@@ -140,6 +147,7 @@ fn made_with(made: Made, length: usize, watched: bool, rule: usize, line: usize)
 
 // Makes the table of one rule more, after those that are made.
 fn make_next(
+    rt: &HostRuntime,
     file: &[u8],
     rule: Rule,
     actions: &[u16],
@@ -151,20 +159,21 @@ fn make_next(
     ensures { (result.count ≡ made.count + 1) × (result.end ≤ 1032 * result.count) }
 {
     let end = made.end;
-    let length = make_rule(file, rule, actions, list, &mut tables[end..]);
+    let length = make_rule(rt, file, rule, actions, list, &mut tables[end..]);
     let watched = tables[end] == 2;
     let line = word_line(file, rule, 0);
     made_with(made, length, watched, rule.number, line)
 }
 
 // 2: more rules than can be joined.
-pub(crate) fn refuse_many() {
-    tell_refused(2, 0);
-    tell_number(MANY_RULES, 0, 0);
+pub(crate) fn refuse_many(rt: &HostRuntime) {
+    tell_refused(rt, 2, 0);
+    tell_number(rt, MANY_RULES, 0, 0);
 }
 
 // Makes the tables of the rules of a file that begin here, after those that are made.
 fn make_rules(
+    rt: &HostRuntime,
     file: &[u8],
     start: usize,
     actions: &[u16],
@@ -181,35 +190,41 @@ fn make_rules(
     while made.count < 8 {
         let rule = rule_at(file, from, number);
         let to = rule.to;
-        made = make_next(file, rule, actions, list, tables, made);
+        made = make_next(rt, file, rule, actions, list, tables, made);
         if made.refused | (to == file.len()) {
             return made;
         }
         from = next_line(file, to);
         number = following(number);
     }
-    refuse_many();
+    refuse_many(rt);
     refused(made)
 }
 
 // Makes the tables of a rule file over its actions, after those that are made.
-pub(crate) fn make_file(file: &[u8], sets: &[u16], tables: &mut [u8], before: Made) -> Made
+pub(crate) fn make_file(
+    rt: &HostRuntime,
+    file: &[u8],
+    sets: &[u16],
+    tables: &mut [u8],
+    before: Made,
+) -> Made
     requires { (8256 ≡ length tables.old) × (before.count ≤ 8) × (before.end ≤ 1032 * before.count) }
     ensures { (result.count ≤ 8) × (result.end ≤ 1032 * result.count) }
 {
     let end = find(file, 0, 10);
     let start = next_line(file, 0);
-    make_rules(file, start, sets, part(file, 0, end), tables, before)
+    make_rules(rt, file, start, sets, part(file, 0, end), tables, before)
 }
 
 // Reads the action list of a rule file that is not too long to the front of `sets`, and answers the number of actions, 0 where it is refused.
-pub(crate) fn open_file(file: &[u8], sets: &mut [u16]) -> usize
+pub(crate) fn open_file(rt: &HostRuntime, file: &[u8], sets: &mut [u16]) -> usize
     requires { 16 ≤ length sets.old }
 {
     if 65535 < file.len() {
-        refuse_long_file();
+        refuse_long_file(rt);
         return 0;
     }
     let end = find(file, 0, 10);
-    read_head(part(file, 0, end), sets)
+    read_head(rt, part(file, 0, end), sets)
 }

@@ -23,7 +23,7 @@ use rule_lines::{is_sheet, next_line};
 use told_messages::following;
 
 // Explains with areas of its own.
-fn ask(sheet: &[u8], list: &[u8]) -> Explained {
+fn ask(rt: &HostRuntime, sheet: &[u8], list: &[u8]) -> Explained {
     let mut place = room_for_place();
     let mut work = room_for_bytes();
     let mut values = room_for_values();
@@ -39,17 +39,17 @@ fn number_at(list: &[u8], place: usize) -> usize {
 }
 
 // The denied action, with its name in the action list.
-fn tell_action(list: &[u8], names: &[u8], place: usize, node: usize) {
+fn tell_action(rt: &HostRuntime, list: &[u8], names: &[u8], place: usize, node: usize) {
     let action = number_at(list, place);
     let span = name_at(names, action);
-    tell_denied(place, node, action, part(names, span.from, span.to));
+    tell_denied(rt, place, node, action, part(names, span.from, span.to));
 }
 
 // 12: the first word of the line that is no action of so many.
-fn refuse_list(line: &[u8], list: &[u8], names: &[u8], actions: usize) {
+fn refuse_list(rt: &HostRuntime, line: &[u8], list: &[u8], names: &[u8], actions: usize) {
     let place = first_outside(list, actions);
-    tell_refused(12, 0);
-    tell_wrong_listed(following(place), word_of(line, place), actions, names);
+    tell_refused(rt, 12, 0);
+    tell_wrong_listed(rt, following(place), word_of(line, place), actions, names);
 }
 
 // What asking gives: 0 where no action is denied, 255 with the place and the node of a denial, or the number of a refusal with its spot.
@@ -84,31 +84,31 @@ fn asked_of(explained: Explained) -> Asked {
 }
 
 // What is refused of a sheet.
-pub(crate) fn refuse_sheet(number: usize, spot: usize) {
-    tell_refused(number, spot);
-    tell_of_sheet(number, spot);
+pub(crate) fn refuse_sheet(rt: &HostRuntime, number: usize, spot: usize) {
+    tell_refused(rt, number, spot);
+    tell_of_sheet(rt, number, spot);
     if number == 34 {
-        tell_number(WATCHED_SHEET, 0, 0);
+        tell_number(rt, WATCHED_SHEET, 0, 0);
     }
 }
 
-fn explain_sheet(sheet: &[u8], line: &[u8], list: &[u8]) {
-    let asked = asked_of(ask(sheet, list));
+fn explain_sheet(rt: &HostRuntime, sheet: &[u8], line: &[u8], list: &[u8]) {
+    let asked = asked_of(ask(rt, sheet, list));
     let number = asked.number;
     if number == 0 {
-        tell_number(NONE_DENIED, list.len(), 0);
+        tell_number(rt, NONE_DENIED, list.len(), 0);
         return;
     }
     if number == 255 {
-        tell_action(list, b"", asked.place, asked.node);
-        tell_denier(sheet, asked.node, 0, 0, 0);
+        tell_action(rt, list, b"", asked.place, asked.node);
+        tell_denier(rt, sheet, asked.node, 0, 0, 0);
         return;
     }
     if number == 12 {
-        refuse_list(line, list, b"", number_at(sheet, 0));
+        refuse_list(rt, line, list, b"", number_at(sheet, 0));
         return;
     }
-    refuse_sheet(number, asked.node);
+    refuse_sheet(rt, number, asked.node);
 }
 
 // What is found of the rules so far: that one was refused, which is told; the first watched one with its line, 0 where none is; that the list has a
@@ -193,16 +193,24 @@ fn found_with(found: Found, asked: Asked, file: &[u8], rule: Rule) -> Found {
 }
 
 // What is found with the sheet of one rule more.
-fn ask_sheet(found: Found, file: &[u8], rule: Rule, sheet: &[u8], list: &[u8]) -> Found {
-    let explained = ask(sheet, list);
+fn ask_sheet(
+    rt: &HostRuntime,
+    found: Found,
+    file: &[u8],
+    rule: Rule,
+    sheet: &[u8],
+    list: &[u8],
+) -> Found {
+    let explained = ask(rt, sheet, list);
     if let Explained::Refused(refusal) = explained {
-        tell_refusal(refusal, file, rule, sheet);
+        tell_refusal(rt, refusal, file, rule, sheet);
     }
     found_with(found, asked_of(explained), file, rule)
 }
 
 // The same with the rule.
 fn ask_rule(
+    rt: &HostRuntime,
     found: Found,
     file: &[u8],
     rule: Rule,
@@ -211,15 +219,22 @@ fn ask_rule(
     names: &[u8],
 ) -> Found {
     let mut room = room_for_sheet();
-    let length = read_rule(file, rule, actions, names, &mut room);
+    let length = read_rule(rt, file, rule, actions, names, &mut room);
     if length == 0 {
         return found_refused(found);
     }
-    ask_sheet(found, file, rule, front(&room, length), list)
+    ask_sheet(rt, found, file, rule, front(&room, length), list)
 }
 
 // Asks the rules that begin here one after the other.
-fn ask_rules(file: &[u8], start: usize, actions: &[u16], list: &[u8], names: &[u8]) -> Found
+fn ask_rules(
+    rt: &HostRuntime,
+    file: &[u8],
+    start: usize,
+    actions: &[u16],
+    list: &[u8],
+    names: &[u8],
+) -> Found
     requires { start ≤ length file.now }
 {
     let mut found = nothing_found(list.len());
@@ -228,60 +243,82 @@ fn ask_rules(file: &[u8], start: usize, actions: &[u16], list: &[u8], names: &[u
     while number <= 8 {
         let rule = rule_at(file, from, number);
         let to = rule.to;
-        found = ask_rule(found, file, rule, actions, list, names);
+        found = ask_rule(rt, found, file, rule, actions, list, names);
         if found.refused | (to == file.len()) {
             return found;
         }
         from = next_line(file, to);
         number += 1;
     }
-    refuse_many();
+    refuse_many(rt);
     found_refused(found)
 }
 
 // The node that denies, by the words of the rule's text.
-fn tell_node(file: &[u8], rule: Rule, actions: &[u16], names: &[u8], node: usize) {
+fn tell_node(
+    rt: &HostRuntime,
+    file: &[u8],
+    rule: Rule,
+    actions: &[u16],
+    names: &[u8],
+    node: usize,
+) {
     let mut room = room_for_sheet();
-    let length = read_rule(file, rule, actions, names, &mut room);
+    let length = read_rule(rt, file, rule, actions, names, &mut room);
     let sheet = front(&room, length);
     let words = words_before(sheet, node);
     let line = word_line(file, rule, words);
-    tell_denier(sheet, node, rule.number, line, following(words));
+    tell_denier(rt, sheet, node, rule.number, line, following(words));
 }
 
 // The first denial, or that there is none.
-fn tell_first(found: Found, file: &[u8], actions: &[u16], list: &[u8], names: &[u8]) {
+fn tell_first(
+    rt: &HostRuntime,
+    found: Found,
+    file: &[u8],
+    actions: &[u16],
+    list: &[u8],
+    names: &[u8],
+) {
     let place = found.place;
     let node = found.node;
     let rule = found.rule;
     if place == list.len() {
-        tell_number(NONE_DENIED, place, 0);
+        tell_number(rt, NONE_DENIED, place, 0);
         return;
     }
-    tell_action(list, names, place, node);
-    tell_node(file, rule, actions, names, node);
+    tell_action(rt, list, names, place, node);
+    tell_node(rt, file, rule, actions, names, node);
 }
 
-fn tell_found(found: Found, file: &[u8], actions: &[u16], line: &[u8], list: &[u8], names: &[u8]) {
+fn tell_found(
+    rt: &HostRuntime,
+    found: Found,
+    file: &[u8],
+    actions: &[u16],
+    line: &[u8],
+    list: &[u8],
+    names: &[u8],
+) {
     if found.refused {
         return;
     }
     if 0 < found.watched_line {
-        tell_refused(34, 0);
-        tell_of_rule(found.watched_rule, WATCHED_ASKED, found.watched_line, 0);
+        tell_refused(rt, 34, 0);
+        tell_of_rule(rt, found.watched_rule, WATCHED_ASKED, found.watched_line, 0);
         return;
     }
     if found.wrong_list {
-        refuse_list(line, list, names, actions.len());
+        refuse_list(rt, line, list, names, actions.len());
         return;
     }
-    tell_first(found, file, actions, list, names);
+    tell_first(rt, found, file, actions, list, names);
 }
 
 // A list, of which this is the line, asked of a rule file.
-fn explain_rules(file: &[u8], line: &[u8]) {
+fn explain_rules(rt: &HostRuntime, file: &[u8], line: &[u8]) {
     let mut sets = room_for_actions();
-    let count = open_file(file, &mut sets);
+    let count = open_file(rt, file, &mut sets);
     if count == 0 {
         return;
     }
@@ -291,22 +328,22 @@ fn explain_rules(file: &[u8], line: &[u8]) {
     let length = read_list(line, names, &mut room);
     let list = front(&room, length);
     let actions = front_sets(&sets, count);
-    let found = ask_rules(file, next_line(file, 0), actions, list, names);
-    tell_found(found, file, actions, line, list, names);
+    let found = ask_rules(rt, file, next_line(file, 0), actions, list, names);
+    tell_found(rt, found, file, actions, line, list, names);
 }
 
 // Prints which action of a list is denied first, and by which part of a file's rules or of a sheet.
-pub(crate) fn explain_file(file: &[u8], line: &[u8]) {
+pub(crate) fn explain_file(rt: &HostRuntime, file: &[u8], line: &[u8]) {
     if 65535 < line.len() {
-        tell_refused(31, 0);
-        tell_number(LONG_LIST, 0, 0);
+        tell_refused(rt, 31, 0);
+        tell_number(rt, LONG_LIST, 0, 0);
         return;
     }
     if is_sheet(file) {
         let mut room = room_for_list();
         let length = read_list(line, b"", &mut room);
-        explain_sheet(file, line, front(&room, length));
+        explain_sheet(rt, file, line, front(&room, length));
         return;
     }
-    explain_rules(file, line);
+    explain_rules(rt, file, line);
 }

@@ -41,29 +41,29 @@ fn told_of(listed: Listed) -> Told {
     }
 }
 
-fn tell_listed(line: &[u8], told: Told) {
+fn tell_listed(rt: &HostRuntime, line: &[u8], told: Told) {
     let number = told.number;
     let message = told.message;
     if message == WRONG_ACTION {
-        tell_wrong_action(following(number), word_of(line, number));
+        tell_wrong_action(rt, following(number), word_of(line, number));
         return;
     }
-    tell(message, following(number), 0, word_of(line, number));
+    tell(rt, message, following(number), 0, word_of(line, number));
     if message == NO_ACTIONS {
-        tell_number(ACTION_FORM, 0, 0);
+        tell_number(rt, ACTION_FORM, 0, 0);
     }
 }
 
 // Reads the action list of a line to the front of `sets`, and answers the number of actions, 1 to 16. Where the line is refused tells why, and answers 0.
-pub(crate) fn read_head(line: &[u8], sets: &mut [u16]) -> usize
+pub(crate) fn read_head(rt: &HostRuntime, line: &[u8], sets: &mut [u16]) -> usize
     requires { 16 ≤ length sets.old }
 {
     let listed = read_actions(line, sets);
     if let Listed::All(count) = listed {
         return count;
     }
-    tell_refused(2, 0);
-    tell_listed(line, told_of(listed));
+    tell_refused(rt, 2, 0);
+    tell_listed(rt, line, told_of(listed));
     0
 }
 
@@ -76,7 +76,7 @@ pub(crate) fn front_sets(sets: &[u16], count: usize) -> &[u16] {
 }
 
 // 31, of a file.
-pub(crate) fn refuse_long_file() {
-    tell_refused(31, 0);
-    tell_number(LONG_FILE, 0, 0);
+pub(crate) fn refuse_long_file(rt: &HostRuntime) {
+    tell_refused(rt, 31, 0);
+    tell_number(rt, LONG_FILE, 0, 0);
 }

@@ -25,42 +25,42 @@ fn refusal_of(joined: Joined) -> usize {
     }
 }
 
-fn tell_refusal(number: usize, made: Made) {
-    tell_refused(number, 0);
+fn tell_refusal(rt: &HostRuntime, number: usize, made: Made) {
+    tell_refused(rt, number, 0);
     if number == 34 {
-        tell_of_rule(made.watched_rule, WATCHED_JOINED, made.watched_line, 0);
+        tell_of_rule(rt, made.watched_rule, WATCHED_JOINED, made.watched_line, 0);
     }
     if number == 8 {
-        tell_number(JOINED_VALUES, made.count, 0);
+        tell_number(rt, JOINED_VALUES, made.count, 0);
     }
     if number == 9 {
-        tell_number(JOINED_ROWS, made.count, 0);
+        tell_number(rt, JOINED_ROWS, made.count, 0);
     }
 }
 
 // Joins the tables that are made, and prints the answer.
-fn print_joined(made: Made, tables: &[u8]) {
+fn print_joined(rt: &HostRuntime, made: Made, tables: &[u8]) {
     let mut table = room_for_table();
     let mut work = room_for_bytes();
     let mut values = room_for_values();
     let joined = joining::join(made.count, tables, &mut table, &mut work, &mut values);
     let number = refusal_of(joined);
     if number == 0 {
-        print_table(&table);
+        print_table(rt, &table);
         return;
     }
-    tell_refusal(number, made);
+    tell_refusal(rt, number, made);
 }
 
 // Prints what is made: the only table, or all of them joined. What is refused is told already.
-pub(crate) fn print_made(made: Made, tables: &[u8]) {
+pub(crate) fn print_made(rt: &HostRuntime, made: Made, tables: &[u8]) {
     if made.refused {
         return;
     }
     let end = made.end;
     if made.count == 1 {
-        print_table(front(tables, end));
+        print_table(rt, front(tables, end));
         return;
     }
-    print_joined(made, front(tables, end));
+    print_joined(rt, made, front(tables, end));
 }

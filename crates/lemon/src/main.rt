@@ -1,4 +1,6 @@
 // lemon: compiles rules, joins them, and explains denials. `lemon help` says how.
+#![tactic(auto)]
+
 mod commands;
 mod compiling;
 mod denials;
@@ -10,8 +12,8 @@ mod rule;
 mod tables;
 mod told;
 
-fn main() {
-    let mut word = io::buffer();
-    let length = os::arg(1, &mut word);
-    commands::run(&word[..length]);
+fn main(rt: HostRuntime) {
+    let mut word = [0u8; 4096];
+    let length = files::argument(&rt, 1, &mut word);
+    commands::run(&rt, &word[..length]);
 }

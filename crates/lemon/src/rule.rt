@@ -14,7 +14,7 @@ use rule_lines::{line_of, rule_end, trimmed};
 use told_messages::following;
 
 // A rule of a file: its number, 0 where it is the only one, and where its text stands.
-#[derive(Drop)]
+#[derive(Clone, Copy)]
 pub(crate) struct Rule {
     pub number: usize,
     pub from: usize,
@@ -71,11 +71,19 @@ fn listed_word(list: &[u8], word: &[u8]) -> Span {
 }
 
 // 32, after so many words.
-fn tell_misfit(file: &[u8], rule: Rule, words: usize, expected: Category, list: &[u8]) {
+fn tell_misfit(
+    rt: &HostRuntime,
+    file: &[u8],
+    rule: Rule,
+    words: usize,
+    expected: Category,
+    list: &[u8],
+) {
     let word = word_of(text_of(file, rule), words);
     let listed = listed_word(list, word);
     let line = word_line(file, rule, words);
     tell_unreadable(
+        rt,
         rule.number,
         line,
         following(words),
@@ -129,27 +137,28 @@ fn outcome_of(read: TextRead) -> Outcome {
 }
 
 // What a refusal of a text says.
-fn tell_outcome(outcome: Outcome, file: &[u8], rule: Rule, list: &[u8]) {
+fn tell_outcome(rt: &HostRuntime, outcome: Outcome, file: &[u8], rule: Rule, list: &[u8]) {
     let number = outcome.number;
     let spot = outcome.spot;
     let expected = outcome.expected;
-    tell_refused(number, spot);
+    tell_refused(rt, number, spot);
     if number == 32 {
-        tell_misfit(file, rule, spot, expected, list);
+        tell_misfit(rt, file, rule, spot, expected, list);
         return;
     }
     let line = word_line(file, rule, 0);
     if number == 31 {
-        tell_of_rule(rule.number, LONG_RULE, line, text_of(file, rule).len());
+        tell_of_rule(rt, rule.number, LONG_RULE, line, text_of(file, rule).len());
     }
     if number == 33 {
-        tell_of_rule(rule.number, MANY_NODES, line, 0);
+        tell_of_rule(rt, rule.number, MANY_NODES, line, 0);
     }
 }
 
 // Reads a rule to a sheet at the front of `sheet`, and answers its length. The action list is given as it stands in the file too. Where the rule is
 // refused tells why, and answers 0.
 pub(crate) fn read_rule(
+    rt: &HostRuntime,
     file: &[u8],
     rule: Rule,
     actions: &[u16],
@@ -158,15 +167,16 @@ pub(crate) fn read_rule(
 ) -> usize {
     let outcome = outcome_of(parser::read_text(text_of(file, rule), actions, sheet));
     if outcome.length == 0 {
-        tell_outcome(outcome, file, rule, list);
+        tell_outcome(rt, outcome, file, rule, list);
     }
     outcome.length
 }
 
 // 8 and 9 of a rule: the word of the node that grows too large.
-fn tell_size(file: &[u8], rule: Rule, words: usize, message: usize) {
+fn tell_size(rt: &HostRuntime, file: &[u8], rule: Rule, words: usize, message: usize) {
     let line = word_line(file, rule, words);
     tell_of_word(
+        rt,
         rule.number,
         line,
         following(words),
@@ -176,18 +186,24 @@ fn tell_size(file: &[u8], rule: Rule, words: usize, message: usize) {
 }
 
 // What the compiler refuses of the sheet of a rule: 8 or 9.
-pub(crate) fn tell_refusal(refusal: Refusal, file: &[u8], rule: Rule, sheet: &[u8]) {
+pub(crate) fn tell_refusal(
+    rt: &HostRuntime,
+    refusal: Refusal,
+    file: &[u8],
+    rule: Rule,
+    sheet: &[u8],
+) {
     let number = refusal_number(refusal);
     let spot = refusal_spot(refusal);
-    tell_refused(number, spot);
+    tell_refused(rt, number, spot);
     if number < 8 {
-        tell_of_sheet(number, spot);
+        tell_of_sheet(rt, number, spot);
         return;
     }
     let words = words_before(sheet, spot);
     if number == 8 {
-        tell_size(file, rule, words, MANY_VALUES);
+        tell_size(rt, file, rule, words, MANY_VALUES);
     } else {
-        tell_size(file, rule, words, MANY_ROWS);
+        tell_size(rt, file, rule, words, MANY_ROWS);
     }
 }

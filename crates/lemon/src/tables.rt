@@ -16,33 +16,33 @@ fn mode_of(table: &[u8]) -> Mode {
     Mode::Enforced
 }
 
-fn note(watched: bool, of_watched: usize, of_enforced: usize) {
+fn note(rt: &HostRuntime, watched: bool, of_watched: usize, of_enforced: usize) {
     if watched {
-        warn_number(of_watched, 0);
+        warn_number(rt, of_watched, 0);
     } else {
-        warn_number(of_enforced, 0);
+        warn_number(rt, of_enforced, 0);
     }
 }
 
 // Notes of a table that has no trip, or that trips at the first action, whatever it is.
-fn note_table(watched: bool, first_row: &[u8], entries: &[u8]) {
+fn note_table(rt: &HostRuntime, watched: bool, first_row: &[u8], entries: &[u8]) {
     if any_between(entries, 255, 255) {
         if any_between(first_row, 0, 254) {
             return;
         }
-        note(watched, REPORTED_AT_ONCE, DENIES_ALL);
+        note(rt, watched, REPORTED_AT_ONCE, DENIES_ALL);
         return;
     }
-    note(watched, NEVER_REPORTED, DENIES_NOTHING);
+    note(rt, watched, NEVER_REPORTED, DENIES_NOTHING);
 }
 
 // Prints a table, which its bytes are.
-pub(crate) fn print_table(table: &[u8]) {
+pub(crate) fn print_table(rt: &HostRuntime, table: &[u8]) {
     let actions = base::byte(byte_at(table, 2));
     let rows = base::byte(byte_at(table, 4));
     let entries = part(table, 8, table.len());
     let mut text = printing::room();
     let printed = printing::print_table(mode_of(table), actions, rows, entries, &mut text);
-    io::write_all(1, printing::written(printed, &text));
-    note_table(byte_at(table, 0) == 2, front(entries, actions), entries);
+    standard_streams::write_all(rt, printing::written(printed, &text));
+    note_table(rt, byte_at(table, 0) == 2, front(entries, actions), entries);
 }

@@ -9,54 +9,66 @@ use told_messages::{
     add_wrong_action, add_wrong_listed,
 };
 
-const ERRORS: i32 = 2;
-
-fn say(text: &[u8], end: usize) {
-    io::write_all(1, front(text, end));
+fn say(rt: &HostRuntime, text: &[u8], end: usize) {
+    standard_streams::write_all(rt, front(text, end));
 }
 
 // A message of the catalogue.
-pub(crate) fn tell(message: usize, first: usize, second: usize, word: &[u8]) {
+pub(crate) fn tell(rt: &HostRuntime, message: usize, first: usize, second: usize, word: &[u8]) {
     let mut text = room_for_text();
     let end = add_message(message, first, second, word, &mut text, 0);
-    say(&text, end);
+    say(rt, &text, end);
 }
 
 // The same without a word.
-pub(crate) fn tell_number(message: usize, first: usize, second: usize) {
-    tell(message, first, second, b"");
+pub(crate) fn tell_number(rt: &HostRuntime, message: usize, first: usize, second: usize) {
+    tell(rt, message, first, second, b"");
 }
 
 // The same on standard error, for notes and for commands that are wrong.
-pub(crate) fn warn(message: usize, first: usize, word: &[u8]) {
+pub(crate) fn warn(rt: &HostRuntime, message: usize, first: usize, word: &[u8]) {
     let mut text = room_for_text();
     let end = add_message(message, first, 0, word, &mut text, 0);
-    io::write_all(ERRORS, front(&text, end));
+    let _ = rt.stderr().write_all(front(&text, end));
 }
 
-pub(crate) fn warn_number(message: usize, first: usize) {
-    warn(message, first, b"");
+pub(crate) fn warn_number(rt: &HostRuntime, message: usize, first: usize) {
+    warn(rt, message, first, b"");
 }
 
-pub(crate) fn tell_refused(number: usize, spot: usize) {
+pub(crate) fn tell_refused(rt: &HostRuntime, number: usize, spot: usize) {
     let mut text = room_for_text();
     let end = add_refused(number, spot, &mut text, 0);
-    say(&text, end);
+    say(rt, &text, end);
 }
 
-pub(crate) fn tell_of_rule(rule: usize, message: usize, first: usize, second: usize) {
+pub(crate) fn tell_of_rule(
+    rt: &HostRuntime,
+    rule: usize,
+    message: usize,
+    first: usize,
+    second: usize,
+) {
     let mut text = room_for_text();
     let end = add_of_rule(rule, message, first, second, &mut text, 0);
-    say(&text, end);
+    say(rt, &text, end);
 }
 
-pub(crate) fn tell_of_word(rule: usize, line: usize, number: usize, message: usize, word: &[u8]) {
+pub(crate) fn tell_of_word(
+    rt: &HostRuntime,
+    rule: usize,
+    line: usize,
+    number: usize,
+    message: usize,
+    word: &[u8],
+) {
     let mut text = room_for_text();
     let end = add_of_word(rule, line, number, message, word, &mut text, 0);
-    say(&text, end);
+    say(rt, &text, end);
 }
 
 pub(crate) fn tell_unreadable(
+    rt: &HostRuntime,
     rule: usize,
     line: usize,
     number: usize,
@@ -66,35 +78,48 @@ pub(crate) fn tell_unreadable(
 ) {
     let mut text = room_for_text();
     let end = add_unreadable(rule, line, number, word, expected, listed, &mut text, 0);
-    say(&text, end);
+    say(rt, &text, end);
 }
 
-pub(crate) fn tell_wrong_action(number: usize, word: &[u8]) {
+pub(crate) fn tell_wrong_action(rt: &HostRuntime, number: usize, word: &[u8]) {
     let mut text = room_for_text();
     let end = add_wrong_action(number, word, &mut text, 0);
-    say(&text, end);
+    say(rt, &text, end);
 }
 
-pub(crate) fn tell_of_sheet(number: usize, spot: usize) {
+pub(crate) fn tell_of_sheet(rt: &HostRuntime, number: usize, spot: usize) {
     let mut text = room_for_text();
     let end = add_of_sheet(number, spot, &mut text, 0);
-    say(&text, end);
+    say(rt, &text, end);
 }
 
-pub(crate) fn tell_wrong_listed(number: usize, word: &[u8], actions: usize, list: &[u8]) {
+pub(crate) fn tell_wrong_listed(
+    rt: &HostRuntime,
+    number: usize,
+    word: &[u8],
+    actions: usize,
+    list: &[u8],
+) {
     let mut text = room_for_text();
     let end = add_wrong_listed(number, word, actions, list, &mut text, 0);
-    say(&text, end);
+    say(rt, &text, end);
 }
 
-pub(crate) fn tell_denied(place: usize, node: usize, action: usize, name: &[u8]) {
+pub(crate) fn tell_denied(rt: &HostRuntime, place: usize, node: usize, action: usize, name: &[u8]) {
     let mut text = room_for_text();
     let end = add_denied(place, node, action, name, &mut text, 0);
-    say(&text, end);
+    say(rt, &text, end);
 }
 
-pub(crate) fn tell_denier(sheet: &[u8], node: usize, rule: usize, line: usize, word: usize) {
+pub(crate) fn tell_denier(
+    rt: &HostRuntime,
+    sheet: &[u8],
+    node: usize,
+    rule: usize,
+    line: usize,
+    word: usize,
+) {
     let mut text = room_for_text();
     let end = add_denier(sheet, node, rule, line, word, &mut text, 0);
-    say(&text, end);
+    say(rt, &text, end);
 }
