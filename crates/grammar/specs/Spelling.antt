@@ -53,8 +53,8 @@ is_proposition w = eqb (get_or w 0 0) 112 && leb (value_of (drop 1 w)) 15
 
 -- a token where a test holds, else what the others say
 unfoldable pub whether : Bool → Token → Token → Token
-whether true token others = token
-whether false token others = others
+whether true token rest = token
+whether false token rest = rest
 
 -- The language's own words: how each is spelled.
 pub record Keyword : Type 0 where
