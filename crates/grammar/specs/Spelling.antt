@@ -86,8 +86,8 @@ keywords =
 
 -- the token of the first that a word is, else what the others say
 abbrev pub token_in : List Keyword → Word → Token → Token
-token_in [] w others = others
-token_in (k ∷ rest) w others = whether (same w k.letters) k.token (token_in rest w others)
+token_in [] w fallback = fallback
+token_in (k ∷ rest) w fallback = whether (same w k.letters) k.token (token_in rest w fallback)
 
 -- Which of the language's words a word is.
 unfoldable pub token_of : Word → Token

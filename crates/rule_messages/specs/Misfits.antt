@@ -18,8 +18,8 @@ any_between low high (byte ∷ rest) = (leb low byte && leb byte high) || any_be
 
 -- a reason where a test holds, else what the others say
 unfoldable pub pick : Bool → Misfit → Misfit → Misfit
-pick true reason others = reason
-pick false reason others = others
+pick true reason rest = reason
+pick false reason rest = rest
 
 abbrev pub has_bracket : List ℕ → Bool
 has_bracket w = any_between 40 41 w || (any_between 91 91 w || (any_between 93 93 w || (any_between 123 123 w || any_between 125 125 w)))
@@ -87,13 +87,13 @@ by_word w expected named =
 
 -- by its bytes: a carriage return, a tab, a byte order mark, a non-breaking space, a bracket, a capital letter
 unfoldable pub by_bytes : List ℕ → Misfit → Misfit
-by_bytes w others =
+by_bytes w rest =
     pick (any_between 13 13 w) Return
     (pick (any_between 9 9 w) Tab
     (pick (any_between 239 239 w) Mark
     (pick (any_between 160 160 w) WideSpace
     (pick (has_bracket w) Bracket
-    (pick (any_between 65 90 w) Capital others)))))
+    (pick (any_between 65 90 w) Capital rest)))))
 
 unfoldable pub misfit_of : List ℕ → Category → (named : Bool) → Misfit
 misfit_of [] expected named = Missing

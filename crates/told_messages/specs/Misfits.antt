@@ -65,14 +65,14 @@ by_word w category is_named =
     (cond (is_other (token_of w)) unknown misplaced)))
 
 -- by its bytes: a carriage return, a tab, a byte order mark, a non-breaking space, a bracket, a capital letter
-unfoldable pub by_bytes : List ℕ → (others : List ℕ) → List ℕ
-by_bytes w others =
+unfoldable pub by_bytes : List ℕ → (rest : List ℕ) → List ℕ
+by_bytes w rest =
     cond (any_between 13 13 w) carriage_return
     (cond (any_between 9 9 w) tab
     (cond (any_between 239 239 w) order_mark
     (cond (any_between 160 160 w) wide_space
     (cond (has_bracket w) bracket
-    (cond (any_between 65 90 w) capital others)))))
+    (cond (any_between 65 90 w) capital rest)))))
 
 -- the word that is there, nothing where the text ends; 5: the rule is whole
 unfoldable pub misfit_of : List ℕ → (category : ℕ) → (is_named : Bool) → List ℕ
