@@ -1,4 +1,6 @@
 // Answers as one number of 64 bits: of the loader, the compiler, joining, explaining and the reader of rule texts.
+#![tactic(auto)]
+
 mod compiling;
 mod explanations;
 mod joins;
