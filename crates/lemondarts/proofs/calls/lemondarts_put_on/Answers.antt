@@ -1,0 +1,16 @@
+-- `lemondarts::calls::lemondarts_put_on` meets its contract.
+use native.Mathlib.Omega.{arith}
+use Rattle.view.specs.Steps.{put_on}
+use Rattle.view.specs.Calls.{Calls}
+use Rattle.lemondarts.specs.Exports.{short-record}
+use Rattle.lemondarts.proofs.Returning.{returned}
+use Rattle.lemondarts.proofs.calls.lemondarts_put_on.Goals as goal
+
+pub returns : goal.returns
+returns c =
+    let g = c.args in
+    returned (λ board. Calls board g.area.now (put_on g.place g.table.now)) c.if-bytes-lt-RECORD.false c.read_board.ensures c.put_on-put.ensures
+    c.put_answer.ensures c.write_back.ensures
+
+pub returns-then-bytes-lt-RECORD : goal.returns-then-bytes-lt-RECORD
+returns-then-bytes-lt-RECORD c = short-record (λ h. omega arith)
