@@ -1,6 +1,5 @@
 -- `lemon::commands::command_number` meets its contract.
 use Prim.Native.Nat.{◌-◌, ◌≤◌}
-use borrow.Author.Rules.{rules}
 use Rattle.lemon.proofs.commands.command_number.Given as goal
 
 abbrev pub invariant-loop-k : goal.invariant-loop-k

@@ -1,7 +1,6 @@
 -- `lemon::commands::same_sets` meets its contract.
 use Prim.Native.Nat.{◌-◌, ◌≤◌}
 use lib.ListN.{length}
-use borrow.Author.Rules.{rules}
 use Rattle.lemon.proofs.commands.same_sets.Given as goal
 
 abbrev pub invariant-loop-k : goal.invariant-loop-k

@@ -2,7 +2,6 @@
 use mathlib.Core.Path.{◌≡◌}
 use Prim.Native.Nat.{◌*◌, ◌-◌, ◌≤◌}
 use lib.ListN.{length}
-use borrow.Author.Rules.{rules}
 use Rattle.lemon.proofs.compiling.make_rules.Given as goal
 
 abbrev pub invariant-loop-made : goal.invariant-loop-made

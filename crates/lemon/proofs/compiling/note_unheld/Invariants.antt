@@ -1,6 +1,5 @@
 -- `lemon::compiling::note_unheld` meets its contract.
 use Prim.Native.Nat.{◌-◌, ◌≤◌}
-use borrow.Author.Rules.{rules}
 use Rattle.lemon.proofs.compiling.note_unheld.Given as goal
 
 abbrev pub invariant-loop-p : goal.invariant-loop-p

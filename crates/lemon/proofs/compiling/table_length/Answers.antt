@@ -1,7 +1,6 @@
 -- `lemon::compiling::table_length` meets its contract: 64 rows of 16 entries behind 8 bytes are the most.
 use native.Mathlib.Nat.{mul-le-mul}
 use native.Mathlib.Omega.{arith}
-use borrow.Author.Rules.{rules}
 use Rattle.lemon.proofs.compiling.table_length.Goals as goal
 
 pub overflow_mul-result : goal.overflow_mul-result

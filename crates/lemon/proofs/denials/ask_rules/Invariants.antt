@@ -1,7 +1,6 @@
 -- `lemon::denials::ask_rules` meets its contract.
 use Prim.Native.Nat.{◌-◌, ◌≤◌}
 use lib.ListN.{length}
-use borrow.Author.Rules.{rules}
 use Rattle.lemon.proofs.denials.ask_rules.Given as goal
 
 abbrev pub invariant-loop-number : goal.invariant-loop-number
