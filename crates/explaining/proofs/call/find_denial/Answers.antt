@@ -1,9 +1,11 @@
 -- `explaining::call::find_denial` meets its contract: 34, 12, no denial, or the first denied action and the node that is named for it.
 use mathlib.Core.Path.{◌≡◌, refl, sym, subst}
+use mathlib.Core.Bool.{false}
 use mathlib.Core.List.{List}
 use Prim.Native.Nat.{ℕ, suc, ◌+◌}
 use native.Mathlib.Numerals.{add-one}
 use native.Mathlib.Omega.{arith}
+use borrow.Author.Rules.{rules}
 use lib.ListN.{take}
 use lib.Seq.{length-take-le}
 use Rattle.base.specs.Build.{Decides}
@@ -12,6 +14,7 @@ use Rattle.trace.specs.declared.Mode.{Mode}
 use Rattle.trace.specs.declared.Mode.TheVariants.{Enforced}
 use Rattle.table.specs.Answer.{mode_number}
 use Rattle.policy.proofs.Congruent.{sequence-take}
+use Rattle.syntax.specs.declared.Sheet.{Sheet}
 use Rattle.explaining.specs.Denials.{policy_node, FirstDenied}
 use Rattle.explaining.specs.Explains.{Explanation, no-denial, denied, refused, Finds, no-action, none-denied, first-denied}
 use Rattle.explaining.specs.Reading.{FindsBy, LowestTrips, Standing}
@@ -26,6 +29,10 @@ pub returns-then-watched : goal.returns-then-watched
 returns-then-watched c =
     let e = watched-mode c.args.mode (subst (Decides (mode_number c.args.mode ≡ 2)) c.if-watched.true c.is_watched-watched.ensures) in
     rw e (refl, refl)
+
+-- what is found of an enforced sheet
+found-of : {mode : Mode} {sheet : Sheet} {list written : List ℕ} → mode ≡ Enforced → (answer : Explanation) → Finds sheet list answer written → FindsBy mode sheet list answer written
+found-of {sheet = sheet} {list} {written} e answer f = subst (λ (m : Mode). FindsBy m sheet list answer written) (sym e) f
 
 -- the sheet is enforced
 module _ (c : Else-watched) where
@@ -42,12 +49,14 @@ module _ (c : Else-watched) where
   stands = subst (λ (m : Mode). Standing m start.args.sheet start.args.work.now) enforced start.requires
 
   found : (answer : Explanation) {written : List ℕ} → Finds start.args.sheet list answer written → FindsBy start.args.mode start.args.sheet list answer written
-  found answer {written} f = subst (λ (m : Mode). FindsBy m start.args.sheet list answer written) (sym enforced) f
+  found answer f = found-of enforced answer f
 
 pub returns-then-outside : goal.returns-then-outside
 returns-then-outside c =
-    let e = (goal.at.returns-then-outside c).Else-watched in
-    found e (refused 12 0) (no-action (not-sequence _ (list e) (rw (c.if-outside.true) at e.all_actions-outside.ensures)))
+    let a = c.args in
+    let passed : c.is_watched-watched.result ≡ false = search rules in
+    let enforced = enforced-mode a.mode (subst (Decides (mode_number a.mode ≡ 2)) passed c.is_watched-watched.ensures) in
+    found-of enforced (refused 12 0) (no-action (not-sequence _ a.list.now (rw c.if-outside.true at c.all_actions-outside.ensures)))
 
 -- the list is one of actions
 module _ (c : Else-outside) where

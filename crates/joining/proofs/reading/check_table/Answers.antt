@@ -1,15 +1,17 @@
 -- `joining::reading::check_table` meets its contract: check 10, then 11, then the type.
 use mathlib.Core.Path.{◌≡◌, refl, subst}
+use mathlib.Core.Bool.{true}
 use mathlib.Core.List.{List}
 use Prim.Native.Nat.{ℕ, ◌+◌, ◌*◌, ◌-◌, ◌≤◌}
 use native.Mathlib.Omega.{arith}
+use borrow.Author.Rules.{rules}
 use lib.ListN.{length, take, drop, length-take}
-use Rattle.table.specs.Table.{table_length, front_table}
+use Rattle.table.specs.Table.{table_length, front_table, CanonicalRows}
 use Rattle.table.specs.Answer.{mode_number, accepted, malformed, Loads, FormedAs}
 use Rattle.table.proofs.Formed.{area, whole_of, front-entries, rows_fit, loads-accepted, loads-refused}
 use Rattle.joining.proofs.Walking.{refused-10, refused-11, refused-34, fit-front, enforced-else}
 use Rattle.joining.proofs.reading.check_table.Goals as goal
-use Rattle.joining.proofs.reading.check_table.Goals.{Else-not-canonical, In-Fields}
+use Rattle.joining.proofs.reading.check_table.Goals.{In-Fields}
 
 -- check 10 passes
 module _ (c : In-Fields) where
@@ -57,20 +59,21 @@ returns-then-not-canonical c =
     refused-11 (bytes at) (loads-refused _ _ _ _ (front at) (rw (c.if-not-canonical.true, entries at) at c.canonical-canonical.ensures))
 
 -- check 11 passes
-module _ (c : Else-not-canonical) where
-  abbrev at : In-Fields
-  at = (goal.at.Else-not-canonical c).In-Fields
+module _ (c : In-Fields) (canonical : CanonicalRows (rows c) (actions c) (drop 8 (front_table (bytes c)))) where
+  loads : Loads (front_table (bytes c)) (accepted (mode_number c.in-Fields.mode) (actions c) (rows c))
+  loads = loads-accepted _ _ _ _ (front c) canonical
 
-  loads : Loads (front_table (bytes at)) (accepted (mode_number at.in-Fields.mode) (actions at) (rows at))
-  loads = loads-accepted _ _ _ _ (front at) (rw (c.if-not-canonical.false, entries at) at c.canonical-canonical.ensures)
-
-  of-type : (n : ℕ) → mode_number at.in-Fields.mode ≡ n → Loads (front_table (bytes at)) (accepted n (actions at) (rows at))
-  of-type n e = subst (λ (k : ℕ). Loads (front_table (bytes at)) (accepted k (actions at) (rows at))) e loads
+  of-type : (n : ℕ) → mode_number c.in-Fields.mode ≡ n → Loads (front_table (bytes c)) (accepted n (actions c) (rows c))
+  of-type n e = subst (λ (k : ℕ). Loads (front_table (bytes c)) (accepted k (actions c) (rows c))) e loads
 
 pub returns-then-watched : goal.returns-then-watched
-returns-then-watched c = let e = (goal.at.returns-then-watched c).Else-not-canonical in refused-34 (bytes (at e)) (of-type e 2 (rw c.if-watched.true at e.is_watched-watched.ensures))
+returns-then-watched c =
+    let at = (goal.at.returns-then-watched c).In-Fields in
+    let passed : c.canonical-canonical.result ≡ true = search rules in
+    refused-34 (bytes at) (of-type at (rw (passed, entries at) at c.canonical-canonical.ensures) 2 (rw c.if-watched.true at c.is_watched-watched.ensures))
 
 pub returns : goal.returns
 returns c =
-    let e = (goal.at.returns c).Else-not-canonical in
-    fit-front (bytes (at e)) (of-type e 1 (enforced-else (at e).in-Fields.mode (rw c.if-watched.false at e.is_watched-watched.ensures)))
+    let at = (goal.at.returns c).In-Fields in
+    let passed : c.canonical-canonical.result ≡ true = search rules in
+    fit-front (bytes at) (of-type at (rw (passed, entries at) at c.canonical-canonical.ensures) 1 (enforced-else at.in-Fields.mode (rw c.if-watched.false at c.is_watched-watched.ensures)))
