@@ -1,5 +1,5 @@
 # Installs the headers, the static archive and a file for pkg-config: make install PREFIX=/usr/local [DESTDIR=..]
-# The archive is target/staticlib/liblemondarts.a, built with the Rattle kit (rt) where the sources are newer; ARCHIVE=.. names another.
+# The archive is target/staticlib/liblemondarts.a, which tools/archive builds with the Rattle kit (rt) where the sources are newer; ARCHIVE=.. names another.
 
 PREFIX ?= /usr/local
 ARCHIVE ?= target/staticlib/liblemondarts.a
@@ -16,7 +16,7 @@ help:
 	@echo 'make uninstall PREFIX=..    removes them'
 
 target/staticlib/liblemondarts.a: $(wildcard crates/*/src/*.rt)
-	rt staticlib lemondarts
+	tools/archive
 
 install: $(ARCHIVE)
 	install -d '$(include_folder)' '$(lib_folder)/pkgconfig'

@@ -1,5 +1,5 @@
 //! Compiles by_hand.c twice, as plain C and with SSE2, by CC, else gcc; and links liblemondarts.a: the one that
-//! ARCHIVE names by its whole path, else that of target/staticlib (`rt staticlib lemondarts` writes it).
+//! ARCHIVE names by its whole path, else that of target/staticlib (`tools/archive` writes it).
 
 use std::process::Command;
 

@@ -1,6 +1,6 @@
 /* Which part of a rule denied it: reads a house rule typed as text, six parts under Ands, runs a roast on a board, and has each denial explained.
  *
- * From the top of the repository, after `rt staticlib lemondarts`:
+ * From the top of the repository, after `tools/archive`:
  *
  *     gcc -std=c99 -Wall -Wextra -Iinclude -o explain examples/explain.c target/staticlib/liblemondarts.a && ./explain | diff examples/explain.txt -
  */

@@ -1,7 +1,7 @@
 /* A shop's rules as one table: reads seven rules typed as text, compiles each, joins their tables, and asks two boards, one with the seven tables
  * on and one with the joined table alone, for the same actions.
  *
- * From the top of the repository, after `rt staticlib lemondarts`:
+ * From the top of the repository, after `tools/archive`:
  *
  *     gcc -std=c99 -Wall -Wextra -Iinclude -o join examples/join.c target/staticlib/liblemondarts.a && ./join | diff examples/join.txt -
  */

@@ -1,6 +1,6 @@
 /* A roast under three rules: compiles their sheets, puts the tables on a board, and asks for each action whether it is permitted.
  *
- * From the top of the repository, after `rt staticlib lemondarts`:
+ * From the top of the repository, after `tools/archive`:
  *
  *     gcc -std=c99 -Wall -Wextra -Iinclude -o roast examples/roast.c target/staticlib/liblemondarts.a && ./roast | diff examples/roast.txt -
  */

@@ -1,6 +1,6 @@
 /* Measures the stack that each call takes: runs it on a painted stack, and counts the bytes that it changed.
  *
- * From the top of the repository, after `rt staticlib lemondarts`:
+ * From the top of the repository, after `tools/archive`:
  *
  *     gcc -std=c11 -O2 -Wall -Wextra -Iinclude -o stack examples/stack.c target/staticlib/liblemondarts.a && ./stack
  *

@@ -1,6 +1,6 @@
 /* Lemondarts: rules as text, rule sheets, tables, denials explained and the board, for C and C++.
  *
- * What can be linked today is liblemondarts.a, a static archive for x86-64 Linux (`rt staticlib lemondarts` writes it to target/staticlib/,
+ * What can be linked today is liblemondarts.a, a static archive for x86-64 Linux (`tools/archive` writes it to target/staticlib/,
  * `make install` installs it). It needs no other library but memcpy, memmove and memset, and allocates nothing.
  *
  * What holds for every call:

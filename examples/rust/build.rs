@@ -1,5 +1,5 @@
 //! Links liblemondarts.a: from the folder that LEMONDARTS_LIB names, else from target/staticlib of
-//! the repository (`rt staticlib lemondarts` writes it there).
+//! the repository (`tools/archive` writes it there).
 
 fn main() {
     println!("cargo:rerun-if-changed=build.rs");

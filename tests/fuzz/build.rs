@@ -1,4 +1,4 @@
-//! Links target/staticlib/liblemondarts.a of the repository (`rt staticlib lemondarts` writes it).
+//! Links target/staticlib/liblemondarts.a of the repository (`tools/archive` writes it).
 
 fn main() {
     println!("cargo:rerun-if-changed=build.rs");
