@@ -25,7 +25,8 @@ bounds-rules-n c = let f = c.requires.few in omega (arith, c.loop-n-test.true)
 pub build_next-built-requires : goal.build_next-built-requires
 build_next-built-requires c =
     let v = c.loop-n in
-    next-buildable c.requires c.loop-n-test.true v.invariant.3 _ refl v.values (omega (arith, v.invariant.1, c.requires.room)) (omega (arith, v.invariant.2, c.requires.space))
+    let z = c in
+    next-buildable z.requires c.loop-n-test.true v.invariant.3 _ refl v.values (omega (arith, v.invariant.1, z.requires.room)) (omega (arith, v.invariant.2, z.requires.space))
 
 -- behind the call
 module _ (c : After-build_next-built) where

@@ -6,4 +6,5 @@ use Rattle.compiler.proofs.call.compile_in.Goals as goal
 
 pub returns : goal.returns
 returns c =
-    let p = c.compile_with-compiled.auto in record { compiles_to = c.compile_with-compiled.ensures; zeroed = of-length (length c.args.work.now) 0 c.compile_with-compiled.new.work _ (omega arith) c.fill.ensures; zeroed_2 = of-length (length c.args.values.now) 0 c.compile_with-compiled.new.values _ (omega arith) c.clear_numbers.ensures }
+    let z = c in
+    let p = c.compile_with-compiled.auto in record { compiles_to = c.compile_with-compiled.ensures; zeroed = of-length (length z.args.work.now) 0 c.compile_with-compiled.new.work _ (omega arith) c.fill.ensures; zeroed_2 = of-length (length z.args.values.now) 0 c.compile_with-compiled.new.values _ (omega arith) c.clear_numbers.ensures }

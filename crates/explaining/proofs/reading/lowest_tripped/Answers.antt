@@ -36,10 +36,11 @@ first_trip-requires c = walkable (goal.at.first_trip-requires c).In-loop-n (eq-e
 
 pub returns-then-first_trip-list : goal.returns-then-first_trip-list
 returns-then-first_trip-list c =
-    let l = c.loop-n in
+    let t = c in
+    let l = t.loop-n in
     record {
       within = omega (arith, l.invariant.0);
-      chosen = λ h. (eq-eqb _ 1 c.if-set-n-eq1.true, whole-tripped c.first_trip.ensures c.if-first_trip-list.true);
+      chosen = λ h. (eq-eqb _ 1 t.if-set-n-eq1.true, whole-tripped c.first_trip.ensures c.if-first_trip-list.true);
       passed = l.invariant.1;
     }
 

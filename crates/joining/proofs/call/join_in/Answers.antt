@@ -6,4 +6,5 @@ use Rattle.joining.proofs.call.join_in.Goals as goal
 
 pub returns : goal.returns
 returns c =
-    let p = c.join_with-joined.auto in record { writes_to = c.join_with-joined.ensures; zeroed = of-length (length c.args.work.now) 0 c.join_with-joined.new.work _ (omega arith) c.fill.ensures; zeroed_2 = of-length (length c.args.values.now) 0 c.join_with-joined.new.values _ (omega arith) c.clear_numbers.ensures }
+    let z = c in
+    let p = c.join_with-joined.auto in record { writes_to = c.join_with-joined.ensures; zeroed = of-length (length z.args.work.now) 0 c.join_with-joined.new.work _ (omega arith) c.fill.ensures; zeroed_2 = of-length (length z.args.values.now) 0 c.join_with-joined.new.values _ (omega arith) c.clear_numbers.ensures }

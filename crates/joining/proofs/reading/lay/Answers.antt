@@ -7,5 +7,6 @@ use Rattle.joining.proofs.reading.lay.Goals as goal
 
 pub returns : goal.returns
 returns c =
-    let entries = c.args.entries.now in
-    c.copy.ensures ∙ ap (λ (l : List _). entries ++ l) (ap (drop (length entries)) c.fill.ensures ∙ drop-replicate (length entries) _ 255)
+    let f = c in
+    let entries = f.args.entries.now in
+    c.copy.ensures ∙ ap (λ (l : List _). entries ++ l) (ap (drop (length entries)) f.fill.ensures ∙ drop-replicate (length entries) _ 255)

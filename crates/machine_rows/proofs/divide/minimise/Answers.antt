@@ -48,8 +48,9 @@ quotient-requires c =
 
 pub returns : goal.returns
 returns c =
+    let f = c in
     let r = (goal.at.returns c).In-Classes in
     let z = entry (refined r) in
     divided (length z.args.classes.now) z.args.actions z.args.next.now z.args.limit r.in-Classes.count (classes (refined r))
     (firsts (refined r)) z.requires.acting z.requires.some z.requires.machine (counted r).1 (counted r).0 z.requires.numbered z.requires.limited.high
-    (omega (arith, (refined r).refine-refined.auto)) (length z.args.slot.now) c.fill.new.bytes c.quotient.new.out c.fill.ensures c.quotient.ensures
+    (omega (arith, (refined r).refine-refined.auto)) (length z.args.slot.now) f.fill.new.bytes c.quotient.new.out f.fill.ensures c.quotient.ensures

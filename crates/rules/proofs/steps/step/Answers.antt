@@ -21,43 +21,51 @@ stepped actions work value action e h = h ∙ ap (λ (r : NodeRule). code_step a
 
 pub row_move-requires : goal.row_move-requires
 row_move-requires c =
-    let given = known c.in-Same.is c.requires.0 in
-    (given.room, given.parts, c.requires.1, c.requires.2, omega arith)
+    let start = c in
+    let given = known c.in-Same.is start.requires.0 in
+    (given.room, given.parts, start.requires.1, start.requires.2, omega arith)
 
 pub both_step-requires : goal.both_step-requires
 both_step-requires c =
-    let given = known c.in-Both.is c.requires.0 in
-    (given, c.requires.1, c.requires.2)
+    let start = c in
+    let given = known c.in-Both.is start.requires.0 in
+    (given, start.requires.1, start.requires.2)
 
 pub either_step-requires : goal.either_step-requires
 either_step-requires c =
-    let given = known c.in-Either.is c.requires.0 in
-    (given, c.requires.1, c.requires.2)
+    let start = c in
+    let given = known c.in-Either.is start.requires.0 in
+    (given, start.requires.1, start.requires.2)
 
 pub move_copies-requires : goal.move_copies-requires
 move_copies-requires c =
-    let given = known c.in-Copied.is c.requires.0 in
-    (given.room, given.parts, c.requires.1, c.requires.2)
+    let start = c in
+    let given = known c.in-Copied.is start.requires.0 in
+    (given.room, given.parts, start.requires.1, start.requires.2)
 
 pub before_step-requires : goal.before_step-requires
 before_step-requires c =
-    let given = known c.in-Before.is c.requires.0 in
-    (given, c.requires.1, c.requires.2)
+    let start = c in
+    let given = known c.in-Before.is start.requires.0 in
+    (given, start.requires.1, start.requires.2)
 
 pub after_step-requires : goal.after_step-requires
 after_step-requires c =
-    let given = known c.in-After.is c.requires.0 in
-    (given, c.requires.1, c.requires.2)
+    let start = c in
+    let given = known c.in-After.is start.requires.0 in
+    (given, start.requires.1, start.requires.2)
 
 pub fulfilling_step-requires : goal.fulfilling_step-requires
 fulfilling_step-requires c =
-    let given = known c.in-Fulfilling.is c.requires.0 in
-    (given, c.requires.1, c.requires.2)
+    let start = c in
+    let given = known c.in-Fulfilling.is start.requires.0 in
+    (given, start.requires.1, start.requires.2)
 
 pub ignoring_step-requires : goal.ignoring_step-requires
 ignoring_step-requires c =
-    let given = known c.in-Ignoring.is c.requires.0 in
-    (given, c.requires.1, c.requires.2)
+    let start = c in
+    let given = known c.in-Ignoring.is start.requires.0 in
+    (given, start.requires.1, start.requires.2)
 
 pub returns-in-Opening : goal.returns-in-Opening
 returns-in-Opening c =
