@@ -16,7 +16,7 @@ use Rattle.syntax.specs.declared.Fault.{Fault}
 use Rattle.syntax.specs.declared.Fault.TheVariants.{Length, Counts, Areas, UnknownKindAt, WrongFieldAt, WrongTypeAt, BoundAt}
 use Rattle.syntax.specs.declared.Sheet.{Sheet}
 use Rattle.syntax.specs.declared.TypedNode.{TypedNode}
-use Rattle.compiler.specs.Compiles.{StopsAt, values, rows, Builds, stops, Compiles, faulted, passes}
+use Rattle.compiler.specs.Compiles.{values, rows, Builds, stops, Compiles, faulted, passes}
 use Rattle.compiler.specs.Calling.{CompilesInto}
 use Rattle.compiler_laws.proofs.Calls.{table-size, table-in-output}
 use Rattle.lemondarts_laws.specs.Session.{number_in, value_in}

@@ -11,7 +11,7 @@ use Rattle.limits.specs.Limits.{largest}
 use Rattle.table.specs.Answer.{Answer, accepted, refused}
 use Rattle.making.specs.Making.{short, makes}
 use Rattle.joining.specs.Tables.{tables_in, Unfit, malformed, not-canonical, watched}
-use Rattle.joining.specs.Joins.{Meets, many-tuples, many-rows, joins, Joins, miscounted, unfit, left_over, mixed, meets}
+use Rattle.joining.specs.Joins.{Meets, many-tuples, many-rows, Joins, miscounted, unfit, left_over, mixed, meets}
 use Rattle.joining.specs.Calling.{JoinsInto}
 use Rattle.runs.specs.Events.{Event}
 use Rattle.joining_laws.specs.Conjunction.{JoinedTable}

@@ -1,6 +1,6 @@
 -- Where each table that was put on comes from a text, so does each rule on the board.
 -- Assumes nothing.
-use mathlib.Core.Path.{◌≡◌, refl, sym, subst}
+use mathlib.Core.Path.{◌≡◌, refl, subst}
 use mathlib.Core.List.{List, [], ◌∷◌}
 use Prim.Native.Nat.{ℕ}
 use Rattle.runs.specs.Events.{Event, Effect, none, put, off, read, effect_at, PlaceState, nothing, rule, after_effect, on_place}

@@ -1,7 +1,6 @@
 -- Demand 2 of what C sees: the theorems over histories, for a record and an area used only through the exported calls, in the numbers returned.
 -- Assumes nothing.
 use mathlib.Core.Path.{◌≡◌, refl, sym, ◌∙◌, ap, subst}
-use mathlib.Core.Bool.{false}
 use mathlib.Core.List.{List}
 use mathlib.Core.Logic.{◌↔◌}
 use Prim.Native.Nat.{ℕ, ◌<◌}
@@ -9,7 +8,7 @@ use native.Mathlib.Omega.{arith}
 use Rattle.base.specs.Sets.{Member}
 use Rattle.places.specs.Layout.{place_count}
 use Rattle.places.specs.declared.Board.{Board}
-use Rattle.view.specs.Steps.{Call, act, Reply, permitted, denied, is_refusal}
+use Rattle.view.specs.Steps.{Call, act, Reply, permitted, denied}
 use Rattle.view.specs.Calls.{Calls}
 use Rattle.runs.specs.Events.{Event}
 use Rattle.runs.specs.Verdicts.{ActionListed, May, Violated, NoneViolated, FirstFulfilled, IsPermitted}
