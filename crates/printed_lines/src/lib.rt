@@ -47,7 +47,8 @@ fn put_entry(entry: u8, text: &mut [u8], at: usize) -> usize
     ensures { Appends text.old at (entry_text entry) text.new result }
 {
     let e = base::byte(entry);
-    if e == 255 {
+    let trips = e == 255;
+    if trips {
         return put(b'-', text, at);
     }
     put_number(e, text, at)
@@ -59,7 +60,8 @@ fn put_next(row: &[u8], k: usize, text: &mut [u8], at: usize) -> usize
     requires at_in_bounds { at + 4 ≤ length text.old }
     ensures { Appends text.old at (next_text k (get_or row.now k 0)) text.new result }
 {
-    if k == 0 {
+    let first = k == 0;
+    if first {
         return put_entry(row[k], text, at);
     }
     let next = put(b' ', text, at);

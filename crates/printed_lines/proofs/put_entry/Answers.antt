@@ -6,8 +6,8 @@ use Rattle.printed_lines.proofs.EntryTexts.{trip-entry, row-entry}
 use native.Mathlib.Omega.{arith}
 use Rattle.printed_lines.proofs.put_entry.Goals as goal
 
-pub returns-then-e-eq255 : goal.returns-then-e-eq255
-returns-then-e-eq255 c = appends-as (trip-entry c.byte-e.result (omega arith) ∙ ap entry_text c.byte-e.ensures.0) c.put.ensures
+pub returns-then-trips : goal.returns-then-trips
+returns-then-trips c = appends-as (trip-entry c.byte-e.result (omega arith) ∙ ap entry_text c.byte-e.ensures.0) c.put.ensures
 
 pub returns : goal.returns
-returns c = appends-as (row-entry c.byte-e.result (λ e. omega (arith, c.if-e-eq255.false)) ∙ ap entry_text c.byte-e.ensures.0) c.put_number.ensures
+returns c = appends-as (row-entry c.byte-e.result (λ e. omega (arith, c.if-trips.false)) ∙ ap entry_text c.byte-e.ensures.0) c.put_number.ensures

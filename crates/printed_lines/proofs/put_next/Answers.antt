@@ -4,8 +4,8 @@ use Rattle.printed_lines.proofs.EntryTexts.{first_next, later-next}
 use native.Mathlib.Omega.{arith}
 use Rattle.printed_lines.proofs.put_next.Goals as goal
 
-pub returns-then-k-eq0 : goal.returns-then-k-eq0
-returns-then-k-eq0 c = appends-as (first_next c.args.k _ (omega arith)) c.put_entry.ensures
+pub returns-then-first : goal.returns-then-first
+returns-then-first c = appends-as (first_next c.args.k _ (omega arith)) c.put_entry.ensures
 
 pub returns : goal.returns
-returns c = appends-as (later-next c.args.k _ (λ e. omega (arith, c.if-k-eq0.false))) (appends-then c.put-next.ensures c.put_entry-2.ensures)
+returns c = appends-as (later-next c.args.k _ (λ e. omega (arith, c.if-first.false))) (appends-then c.put-next.ensures c.put_entry-2.ensures)
