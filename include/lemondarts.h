@@ -12,8 +12,8 @@
  *   uint16_t, to 2.
  * - Threads: nothing is kept between calls, so calls on different boards and areas may run at once. Calls on one board, or with one work area,
  *   come one after the other: the caller holds a lock.
- * - Stack: compiling, joining and explaining take some 40 KiB, loading and putting on some 3.2 KiB, the others under 1 KiB;
- *   reading a text some 33 KiB for the deepest that 1,024 bytes can say, 6.5 KiB for one that gives a sheet.
+ * - Stack: compiling, joining and explaining take some 45 KiB, loading and putting on some 3.4 KiB, the others under 1 KiB;
+ *   reading a text some 27 KiB for the deepest that 1,024 bytes can say, 5.5 KiB for one that gives a sheet.
  *   LEMONDARTS_STACK_.. below is what to plan for; examples/stack.c measures it.
  * - Nothing else is asked of the caller: the contracts of the calls have no precondition.
  *
