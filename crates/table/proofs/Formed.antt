@@ -11,26 +11,26 @@ use Rattle.base.specs.Word.{word_at}
 use Rattle.automaton.specs.Machine.{Machine}
 use Rattle.table.specs.Table.{actions_of, rows_of, table_length, front_table, entries_of, EntryFits, HeaderFits, WellFormed, RowsFit, CanonicalRows, Canonical}
 use Rattle.table.specs.Answer.{mode_number, accepted, refused, Loads, accepts, not-canonical, FieldsOf, FormedAs}
-use Rattle.trace.specs.declared.Mode.{Mode}
+use Rattle.table.specs.declared.Header.{Header}
 
-module _ (bytes : List ℕ) (mode : Mode) (actions rows : ℕ) (fields : FieldsOf bytes mode actions rows) where
-  pub area : rows * actions ≤ 1024
+module _ (bytes : List ℕ) (header : Header) (fields : FieldsOf bytes header) where
+  pub area : header.rows * header.actions ≤ 1024
   area = mul-le-mul {n₂ = 64} {m₂ = 16} (omega (arith, fields.fits, fields.rowed)) (omega (arith, fields.fits, fields.acting))
 
   -- the length that the header gives
-  pub whole_of : WellFormed bytes → length bytes ≡ 8 + rows * actions
+  pub whole_of : WellFormed bytes → length bytes ≡ 8 + header.rows * header.actions
   whole_of h = rw (fields.rowed, fields.acting) at h.whole
 
-  pub formed : length bytes ≡ 8 + rows * actions → ((k : ℕ) → k < length (drop 8 bytes) → EntryFits rows (get_or (drop 8 bytes) k 255)) → FormedAs bytes mode actions rows
+  pub formed : length bytes ≡ 8 + header.rows * header.actions → ((k : ℕ) → k < length (drop 8 bytes) → EntryFits header.rows (get_or (drop 8 bytes) k 255)) → FormedAs bytes header
   formed e f = record { formed = record { header = fields.fits; whole = rw (fields.rowed, fields.acting) e; entries = at }; fields = fields }
     where
       at : (k : ℕ) → k < rows_of bytes * actions_of bytes → EntryFits (rows_of bytes) (get_or (entries_of bytes) k 255)
-      at k h = rw fields.rowed (f k (rw (length-drop, e) (let g : k < rows * actions = rw (fields.rowed, fields.acting) at h in omega arith)))
+      at k h = rw fields.rowed (f k (rw (length-drop, e) (let g : k < header.rows * header.actions = rw (fields.rowed, fields.acting) at h in omega arith)))
 
-  pub misfit : (((k : ℕ) → k < length (drop 8 bytes) → EntryFits rows (get_or (drop 8 bytes) k 255)) → ⊥) → WellFormed bytes → ⊥
+  pub misfit : (((k : ℕ) → k < length (drop 8 bytes) → EntryFits header.rows (get_or (drop 8 bytes) k 255)) → ⊥) → WellFormed bytes → ⊥
   misfit n h = n at
     where
-      at : (k : ℕ) → k < length (drop 8 bytes) → EntryFits rows (get_or (drop 8 bytes) k 255)
+      at : (k : ℕ) → k < length (drop 8 bytes) → EntryFits header.rows (get_or (drop 8 bytes) k 255)
       at k g =
           rw fields.rowed at
           (h.entries k (rw (fields.rowed, fields.acting) (let l : k < length bytes - 8 = rw length-drop at g in omega (arith, whole_of h))))
@@ -71,8 +71,8 @@ module _ (bytes : List ℕ) where
   front-header h =
       same-header bytes (front_table bytes) (λ at g. sym (word_of_part size bytes at g)) (omega (arith, h.long, length-take (8 + size) bytes)) h
 
-  pub front-fields : (mode : Mode) (actions rows : ℕ) → FieldsOf bytes mode actions rows → FieldsOf (front_table bytes) mode actions rows
-  front-fields mode actions rows f =
+  pub front-fields : (header : Header) → FieldsOf bytes header → FieldsOf (front_table bytes) header
+  front-fields header f =
       record {
         fits = front-header f.fits;
         type = word_of_part size bytes 0 (omega arith) ∙ f.type;
@@ -88,15 +88,15 @@ module _ (bytes : List ℕ) where
   front-rows = word_of_part size bytes 4 (omega arith)
 
   -- the length that a header gives, by its fields
-  pub front_length : (mode : Mode) (actions rows : ℕ) → FieldsOf (front_table bytes) mode actions rows → table_length bytes ≡ 8 + rows * actions
-  front_length mode actions rows f =
+  pub front_length : (header : Header) → FieldsOf (front_table bytes) header → table_length bytes ≡ 8 + header.rows * header.actions
+  front_length header f =
       rw (← f.acting, ← f.rowed, front-actions, front-rows) refl
 
   -- the entries of a table of that length stand behind the header
-  pub front-entries : (mode : Mode) (actions rows end : ℕ) → FieldsOf (front_table bytes) mode actions rows → end ≡ 8 + rows * actions
+  pub front-entries : (header : Header) (end : ℕ) → FieldsOf (front_table bytes) header → end ≡ 8 + header.rows * header.actions
       → take (end - 8) (drop 8 bytes) ≡ drop 8 (front_table bytes)
-  front-entries mode actions rows end f e =
-      let n : end - 8 ≡ table_length bytes - 8 = ap (λ (k : ℕ). k - 8) (e ∙ sym (front_length mode actions rows f)) in
+  front-entries header end f e =
+      let n : end - 8 ≡ table_length bytes - 8 = ap (λ (k : ℕ). k - 8) (e ∙ sym (front_length header f)) in
       ap (λ (k : ℕ). take k (drop 8 bytes)) n ∙ sym (drop-take 8 (table_length bytes) bytes)
 
   -- bytes that are as long as their header gives are the table
@@ -109,8 +109,8 @@ machine bytes h =
     record { sized = length-drop 8 bytes ∙ (omega (arith, h.whole)); marked = omega (arith, h.header); closed = h.entries }
 
 -- a table that passes 10, with its fields as read
-module _ (bytes : List ℕ) (mode : Mode) (actions rows : ℕ) (f : FormedAs bytes mode actions rows) where
-  pub rows_fit : RowsFit rows actions (drop 8 bytes)
+module _ (bytes : List ℕ) (header : Header) (f : FormedAs bytes header) where
+  pub rows_fit : RowsFit header.rows header.actions (drop 8 bytes)
   rows_fit =
       rw (← f.fields.rowed, ← f.fields.acting)
       (record {
@@ -121,12 +121,12 @@ module _ (bytes : List ℕ) (mode : Mode) (actions rows : ℕ) (f : FormedAs byt
         actions-high = f.formed.header.actions-high;
       })
 
-  canonical : CanonicalRows rows actions (drop 8 bytes) → Canonical bytes
+  canonical : CanonicalRows header.rows header.actions (drop 8 bytes) → Canonical bytes
   canonical c = rw (f.fields.rowed, f.fields.acting) c
 
-  pub loads-accepted : CanonicalRows rows actions (drop 8 bytes) → Loads bytes (accepted (mode_number mode) actions rows)
+  pub loads-accepted : CanonicalRows header.rows header.actions (drop 8 bytes) → Loads bytes (accepted (mode_number header.mode) header.actions header.rows)
   loads-accepted c =
       rw (← f.fields.type, ← f.fields.acting, ← f.fields.rowed) (accepts (record { formed = f.formed; canonical = canonical c }))
 
-  pub loads-refused : (CanonicalRows rows actions (drop 8 bytes) → ⊥) → Loads bytes (refused 11 0)
+  pub loads-refused : (CanonicalRows header.rows header.actions (drop 8 bytes) → ⊥) → Loads bytes (refused 11 0)
   loads-refused n = not-canonical f.formed (λ c. n (rw (f.fields.rowed, f.fields.acting) at c))

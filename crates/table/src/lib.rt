@@ -11,25 +11,17 @@ use trace::Mode;
 // The largest table: 64 rows over 16 actions behind its header.
 pub const LARGEST_TABLE: usize = 1032;
 
-// What a table's header says, where its fields are in their ranges.
+// What a table's header says, with its fields in their ranges.
 #[derive(Clone, Copy)]
-pub enum Header {
-    Fields {
-        mode: Mode,
-        actions: usize,
-        rows: usize,
-    },
-    BadHeader,
+pub struct Header {
+    pub mode: Mode,
+    pub actions: usize,
+    pub rows: usize,
 }
 
-// What the loader answers: an accepted table, or refusal 10 or 11.
-#[derive(Clone, Copy)]
-pub enum Loaded {
-    Table {
-        mode: Mode,
-        actions: usize,
-        rows: usize,
-    },
+// Why the loader turns bytes down: refusal 10 or 11.
+#[derive(Clone, Copy, PartialEq, Eq)]
+pub enum LoadError {
     Malformed,
     NotCanonical,
 }
@@ -48,8 +40,5 @@ pub fn mode_number(mode: Mode) -> u8
 pub fn is_watched(mode: Mode) -> bool
     ensures { Decides (mode_number mode ≡ 2) result }
 {
-    match mode {
-        Mode::Watched => true,
-        Mode::Enforced => false,
-    }
+    mode == Mode::Watched
 }
