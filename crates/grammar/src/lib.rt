@@ -2,7 +2,7 @@
 #![tactic(auto)]
 
 // A word: one of the language's own, a proposition p0 to p15, a number 1 to 60, or one that the language does not have.
-#[derive(Clone, Copy)]
+#[derive(Clone, Copy, PartialEq, Eq)]
 pub enum Token {
     Watch,
     Enforce,
@@ -26,7 +26,7 @@ pub enum Token {
 }
 
 // What may stand at a place: a whole text, a watched policy (W), an enforced one (E), an action formula (A), a number (K), or nothing more.
-#[derive(Clone, Copy)]
+#[derive(Clone, Copy, PartialEq, Eq)]
 pub enum Category {
     Text,
     Watched,
