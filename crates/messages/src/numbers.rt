@@ -8,7 +8,7 @@ use crate::writing::put;
 fn put_digit(n: usize, text: &mut [u8], at: usize) -> usize
     ensures { Adds text.old at (digit_of n) text.new result }
 {
-    put(48 + (n % 10) as u8, text, at)
+    put(b'0' + (n % 10) as u8, text, at)
 }
 
 fn add_three(n: usize, text: &mut [u8], at: usize) -> usize

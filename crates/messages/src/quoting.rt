@@ -9,10 +9,7 @@ fn hexadecimal(n: u8) -> u8
     requires { n < 16 }
     ensures { result ≡ hexadecimal_of n }
 {
-    if n < 10 {
-        return 48 + n;
-    }
-    87 + n
+    if n < 10 { b'0' + n } else { b'a' - 10 + n }
 }
 
 fn add_code(byte: u8, text: &mut [u8], at: usize) -> usize
@@ -27,7 +24,7 @@ fn add_code(byte: u8, text: &mut [u8], at: usize) -> usize
 fn add_shown(byte: u8, text: &mut [u8], at: usize) -> usize
     ensures { Adds text.old at (shown_as byte) text.new result }
 {
-    if (32 <= byte) & (byte <= 126) {
+    if (b' '..=b'~').contains(&byte) {
         return put(byte, text, at);
     }
     add_code(byte, text, at)
@@ -37,22 +34,19 @@ fn add_all_shown(word: &[u8], text: &mut [u8], at: usize) -> usize
     ensures { Adds text.old at (all_shown word.now) text.new result }
 {
     let mut end = at;
-    let mut k = 0;
-    while k < word.len() {
-        end = add_shown(word[k], text, end);
-        k += 1;
+    for byte in word {
+        end = add_shown(*byte, text, end);
     }
     end
 }
 
 // The first 40 bytes of a word.
+#[tactic(auto, using(std::proofs::lemmas::List::take_min))]
 fn first_forty(word: &[u8]) -> &[u8]
     ensures { result.now ≡ take 40 word.now }
 {
-    if word.len() < 40 {
-        return word;
-    }
-    &word[..40]
+    let end = usize::min(40, word.len());
+    &word[..end]
 }
 
 pub fn add_quoted(word: &[u8], text: &mut [u8], at: usize) -> usize

@@ -16,10 +16,8 @@ pub fn add(words: &[u8], text: &mut [u8], at: usize) -> usize
     ensures { Adds text.old at words.now text.new result }
 {
     let mut end = at;
-    let mut k = 0;
-    while k < words.len() {
-        end = put(words[k], text, end);
-        k += 1;
+    for byte in words {
+        end = put(*byte, text, end);
     }
     end
 }

@@ -1,6 +1,5 @@
 -- `messages::numbers::add_three` meets its contract.
 use Rattle.messages.proofs.Adding.{adds_then}
-use borrow.Author.Rules.{rules}
 use Rattle.messages.proofs.numbers.add_three.Goals as goal
 
 pub returns : goal.returns

@@ -3,7 +3,6 @@ use mathlib.Core.Path.{ap}
 use mathlib.Core.List.{[], ◌∷◌}
 use Prim.Native.Nat.{ℕ}
 use Rattle.messages.proofs.Adding.{adds_then, adds-as}
-use borrow.Author.Rules.{rules}
 use Rattle.messages.proofs.quoting.add_code.Goals as goal
 
 pub returns : goal.returns

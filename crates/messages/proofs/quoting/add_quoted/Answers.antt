@@ -1,6 +1,5 @@
 -- `messages::quoting::add_quoted` meets its contract.
 use mathlib.Core.Path.{ap}
-use native.Mathlib.Omega.{arith}
 use Rattle.messages.specs.Message.{all_shown}
 use Rattle.messages.proofs.Adding.{adds_then, adds-as}
 use Rattle.messages.proofs.Pieces.{quoted-long, quoted-short}
