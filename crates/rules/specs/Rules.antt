@@ -1,6 +1,6 @@
 -- A node's rule over the numbers of its parts, and the parts' rows in the work area: 1,024 bytes a node, its rows one after the other.
 -- Assumes nothing.
-use Rattle.std.specs.Prelude.{◌≡◌, List, ℕ, ◌*◌, ◌≤◌, ◌<◌, length, get_or, take, drop}
+use Rattle.std.specs.Prelude.{◌≡◌, List, ℕ, Option, Some, None, ◌*◌, ◌≤◌, ◌<◌, length, get_or, take, drop}
 use Rattle.base.specs.Sets.{bit}
 use Rattle.limits.specs.Lengths.{slot_length, work_length}
 use Rattle.trace.specs.Trace.{Move, trip, go}
@@ -10,11 +10,6 @@ use Rattle.policy.specs.Parts.{AllParts}
 use Rattle.policy.specs.Rule.{Rule, opening-r, count-r, same-r, both_r, either_r, copied-r, before-r, after-r, fulfilling-r, ignoring-r, on_parts}
 use Rattle.rules.specs.declared.NodeRule.{NodeRule}
 use Rattle.rules.specs.declared.NodeRule.TheVariants.{Opening, Count, Same, Both, Either, Copied, Before, After, Fulfilling, Ignoring}
-use Rattle.rules.specs.declared.Lowered.{Lowered}
-use Rattle.rules.specs.declared.Lowered.TheVariants.{NoRule, AsRule}
-use Rattle.rules.specs.declared.RuleAt.{RuleAt}
-use Rattle.rules.specs.declared.ValueMove.{ValueMove}
-use Rattle.rules.specs.declared.ValueMove.TheVariants.{Trip, Go}
 
 -- The bytes of a node's rows.
 abbrev pub slot_at : List ℕ → ℕ → List ℕ
@@ -41,14 +36,14 @@ rule_over (Ignoring set b) = ignoring-r (λ a. bit set a) b
 abbrev pub machine_rule : (actions : ℕ) → List ℕ → NodeRule → Rule Part
 machine_rule actions work rule = on_parts (part_at actions work) (rule_over rule)
 
--- What node i of a list is lowered to. Past the list's end there is no rule.
-abbrev pub rule_at : List RuleAt → ℕ → Lowered
-rule_at rules i = (get_or rules i (record { of = NoRule })).of
+-- The rule of node i of a list: none for an action formula, a node that is not used, and past the list's end.
+abbrev pub rule_at : List (Option NodeRule) → ℕ → Option NodeRule
+rule_at rules i = get_or rules i None
 
--- Where the code's answer leads.
-abbrev pub move_of : ValueMove → Move ℕ
-move_of Trip = trip
-move_of (Go v) = go v
+-- Where the code's answer leads: none is a trip.
+abbrev pub move_of : Option ℕ → Move ℕ
+move_of None = trip
+move_of (Some v) = go v
 
 -- A part that can be read: a node's number, and entries below 64 or 255.
 pub record Readable (work : List ℕ) (i : ℕ) : Type 0 where
@@ -61,7 +56,7 @@ pub record Steppable (work : List ℕ) (rule : NodeRule) : Type 0 where
   pub parts : AllParts (Readable work) (rule_over rule)
 
 -- A part of node n in a list: an earlier node that is a rule.
-pub record EarlierRule (rules : List RuleAt) (n i : ℕ) : Type 0 where
+pub record EarlierRule (rules : List (Option NodeRule)) (n i : ℕ) : Type 0 where
   pub before : i < n
   pub rule : NodeRule
-  pub is : rule_at rules i ≡ AsRule rule
+  pub is : rule_at rules i ≡ Some rule

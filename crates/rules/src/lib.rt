@@ -22,23 +22,3 @@ pub enum NodeRule {
     Fulfilling(u8, u8, u8, u8),
     Ignoring(u16, u8),
 }
-
-// Where an action leads: a trip, or the next remembered value as a number.
-#[derive(Clone, Copy)]
-pub enum ValueMove {
-    Trip,
-    Go(u64),
-}
-
-// What a node is lowered to: a rule, whose rows are built; or none, for an action formula and a node that is not used.
-#[derive(Clone, Copy)]
-pub enum Lowered {
-    NoRule,
-    AsRule(NodeRule),
-}
-
-// The same in an array's element.
-#[derive(Clone, Copy)]
-pub struct RuleAt {
-    pub of: Lowered,
-}

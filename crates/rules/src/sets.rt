@@ -4,7 +4,6 @@ ghost use Rattle.policy.specs.Value.{insert, move_all};
 ghost use Rattle.limits.specs.Lengths.{work_length};
 ghost use Rattle.rules.specs.Rules.{part_at, move_of, Readable};
 
-use crate::ValueMove;
 use crate::parts::part_move;
 
 // A set with one row more.
@@ -16,23 +15,17 @@ fn with_row(set: u64, row: u64) -> u64
 }
 
 // All copies moved by an action, and a copy beginning now. The lowest row left is found by trailing zeros.
-pub fn move_copies(work: &[u8], actions: usize, i: u8, set: u64, action: usize) -> ValueMove
+pub fn move_copies(work: &[u8], actions: usize, i: u8, set: u64, action: usize) -> Option<u64>
     requires { (work_length ≤ length work.now) × Readable work.now i × (actions ≤ 16) × (action < actions) }
     ensures { move_of result ≡ move_all (part_at actions work.now i) set action }
 {
     let mut moved = 1;
     let mut rest = set;
     while rest != 0 {
-        let row = u64::trailing_zeros(rest) as usize;
-        match part_move(work, actions, i, row, action) {
-            ValueMove::Trip => {
-                return ValueMove::Trip;
-            }
-            ValueMove::Go(next) => {
-                moved = with_row(moved, next);
-            }
-        }
-        rest = rest & (rest - 1);
+        let row = rest.trailing_zeros() as usize;
+        let next = part_move(work, actions, i, row, action)?;
+        moved = with_row(moved, next);
+        rest &= rest - 1;
     }
-    ValueMove::Go(moved)
+    Some(moved)
 }

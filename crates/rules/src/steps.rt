@@ -10,9 +10,9 @@ ghost use Rattle.limits.specs.Lengths.{work_length};
 ghost use Rattle.rules.specs.Rules.{part_at, move_of, Readable, Steppable};
 ghost use Rattle.rules.specs.Steps.{code_step, code_step_of, code_start};
 
+use crate::NodeRule;
 use crate::parts::{entry_at, part_move};
 use crate::sets::move_copies;
-use crate::{NodeRule, ValueMove};
 
 // A value is put together from bytes (specs/Codes.antt): one further up counts 256 times as much.
 const BYTE: u64 = 256;
@@ -35,7 +35,7 @@ pub fn start(rule: NodeRule, work: &[u8], actions: usize) -> u64
 {
     match rule {
         NodeRule::Copied(_) => 1,
-        NodeRule::Fulfilling(k, _, _, _) => { if k == 0 { MISSED } else { 0 } }
+        NodeRule::Fulfilling(k, ..) => { if k == 0 { MISSED } else { 0 } }
         _ => 0,
     }
 }
@@ -48,31 +48,29 @@ fn in_set(set: u16, action: usize) -> bool
     (set >> action) % 2 == 1
 }
 
-fn opening_step(set: u16, value: u64, action: usize) -> ValueMove
+fn opening_step(set: u16, value: u64, action: usize) -> Option<u64>
     requires { action < 16 }
     ensures { move_of result ≡ code_step_of (opening-r (bit set)) value action }
 {
-    if value == 0 {
-        if in_set(set, action) {
-            return ValueMove::Trip;
-        }
+    if value == 0 && in_set(set, action) {
+        return None;
     }
-    ValueMove::Go(1)
+    Some(1)
 }
 
-fn count_step(k: u8, value: u64, action: usize) -> ValueMove
+fn count_step(k: u8, value: u64, action: usize) -> Option<u64>
     ensures { move_of result ≡ code_step_of (count-r k) value action }
 {
     let sofar = value % BYTE + 1;
-    if sofar < k as u64 {
-        ValueMove::Go(sofar)
+    if sofar < u64::from(k) {
+        Some(sofar)
     } else {
-        ValueMove::Trip
+        None
     }
 }
 
 // Where an action leads from a row that a byte names: to a row below 64, or a trip.
-fn row_move(work: &[u8], actions: usize, i: u8, row: u64, action: usize) -> ValueMove
+fn row_move(work: &[u8], actions: usize, i: u8, row: u64, action: usize) -> Option<u64>
     requires { (work_length ≤ length work.now) × Readable work.now i × (actions ≤ 16) × (action < actions) × (row < byte_up) }
     ensures { (move_of result ≡ part_at actions work.now i row action) × Below 64 (move_of result) }
 {
@@ -90,65 +88,64 @@ fn byte_after(work: &[u8], actions: usize, i: u8, byte: u64, action: usize) -> u
     entry_at(work, i, byte as usize * actions + action)
 }
 
-fn both_step(work: &[u8], actions: usize, i: u8, j: u8, value: u64, action: usize) -> ValueMove
+fn both_step(work: &[u8], actions: usize, i: u8, j: u8, value: u64, action: usize) -> Option<u64>
     requires { Steppable work.now (NodeRule.Both i j) × (actions ≤ 16) × (action < actions) }
     ensures { move_of result ≡ code_step actions work.now (NodeRule.Both i j) value action }
 {
-    let left = byte_after(work, actions, i, value / BYTE % BYTE, action) as u64;
-    let right = byte_after(work, actions, j, value % BYTE, action) as u64;
+    let left = u64::from(byte_after(work, actions, i, value / BYTE % BYTE, action));
+    let right = u64::from(byte_after(work, actions, j, value % BYTE, action));
     let pair = left * BYTE + right;
     if pair == BOTH_TRIPPED {
-        ValueMove::Trip
+        None
     } else {
-        ValueMove::Go(pair)
+        Some(pair)
     }
 }
 
-fn either_step(work: &[u8], actions: usize, i: u8, j: u8, value: u64, action: usize) -> ValueMove
+fn either_step(work: &[u8], actions: usize, i: u8, j: u8, value: u64, action: usize) -> Option<u64>
     requires { Steppable work.now (NodeRule.Either i j) × (actions ≤ 16) × (action < actions) }
     ensures { move_of result ≡ code_step actions work.now (NodeRule.Either i j) value action }
 {
-    let left = byte_after(work, actions, i, value / BYTE % BYTE, action) as u64;
-    let right = byte_after(work, actions, j, value % BYTE, action) as u64;
-    if left == TRIPPED {
-        return ValueMove::Trip;
+    let left = u64::from(byte_after(work, actions, i, value / BYTE % BYTE, action));
+    let right = u64::from(byte_after(work, actions, j, value % BYTE, action));
+    if left == TRIPPED || right == TRIPPED {
+        return None;
     }
-    if right == TRIPPED {
-        return ValueMove::Trip;
-    }
-    ValueMove::Go(left * BYTE + right)
+    Some(left * BYTE + right)
 }
 
 // b is judged on the very action that fulfils a, and only then released.
-fn before_step(work: &[u8], actions: usize, i: u8, j: u8, value: u64, action: usize) -> ValueMove
+fn before_step(work: &[u8], actions: usize, i: u8, j: u8, value: u64, action: usize) -> Option<u64>
     requires { Steppable work.now (NodeRule.Before i j) × (actions ≤ 16) × (action < actions) }
     ensures { move_of result ≡ code_step actions work.now (NodeRule.Before i j) value action }
 {
     if value == RELEASED {
-        return ValueMove::Go(RELEASED);
+        return Some(RELEASED);
     }
-    match row_move(work, actions, j, value % BYTE, action) {
-        ValueMove::Trip => ValueMove::Trip,
-        ValueMove::Go(r) => match row_move(work, actions, i, value / BYTE % BYTE, action) {
-            ValueMove::Trip => ValueMove::Go(RELEASED),
-            ValueMove::Go(q) => ValueMove::Go(q * BYTE + r),
-        },
+    let r = row_move(work, actions, j, value % BYTE, action)?;
+    match row_move(work, actions, i, value / BYTE % BYTE, action) {
+        None => Some(RELEASED),
+        Some(q) => Some(q * BYTE + r),
     }
 }
 
 // A part's row under a mark, behind the action.
-fn marked_move(work: &[u8], actions: usize, i: u8, mark: u64, row: u64, action: usize) -> ValueMove
+fn marked_move(
+    work: &[u8],
+    actions: usize,
+    i: u8,
+    mark: u64,
+    row: u64,
+    action: usize,
+) -> Option<u64>
     requires { (work_length ≤ length work.now) × Readable work.now i × (actions ≤ 16) × (action < actions) × (mark ≤ missed_from) × (row < byte_up) }
     ensures { move_of result ≡ go_with (λ q. mark + q) (part_at actions work.now i row action) }
 {
-    let ValueMove::Go(r) = row_move(work, actions, i, row, action) else {
-        return ValueMove::Trip;
-    };
-    ValueMove::Go(mark + r)
+    Some(mark + row_move(work, actions, i, row, action)?)
 }
 
 // b starts on the action after the one that fulfils a, and does not read that one.
-fn after_step(work: &[u8], actions: usize, i: u8, j: u8, value: u64, action: usize) -> ValueMove
+fn after_step(work: &[u8], actions: usize, i: u8, j: u8, value: u64, action: usize) -> Option<u64>
     requires { Steppable work.now (NodeRule.After i j) × (actions ≤ 16) × (action < actions) }
     ensures { move_of result ≡ code_step actions work.now (NodeRule.After i j) value action }
 {
@@ -156,10 +153,7 @@ fn after_step(work: &[u8], actions: usize, i: u8, j: u8, value: u64, action: usi
     if value / BYTE % BYTE != 0 {
         return marked_move(work, actions, j, MARKED, row, action);
     }
-    match row_move(work, actions, i, row, action) {
-        ValueMove::Trip => ValueMove::Go(MARKED),
-        ValueMove::Go(q) => ValueMove::Go(q),
-    }
+    Some(row_move(work, actions, i, row, action).unwrap_or(MARKED))
 }
 
 fn fulfilling_step(
@@ -171,7 +165,7 @@ fn fulfilling_step(
     l: u8,
     value: u64,
     action: usize,
-) -> ValueMove
+) -> Option<u64>
     requires { Steppable work.now (NodeRule.Fulfilling k i j l) × (actions ≤ 16) × (action < actions) }
     ensures { move_of result ≡ code_step actions work.now (NodeRule.Fulfilling k i j l) value action }
 {
@@ -183,16 +177,14 @@ fn fulfilling_step(
     if phase != 0 {
         return marked_move(work, actions, l, MISSED, low, action);
     }
-    match row_move(work, actions, i, value / BYTE % BYTE, action) {
-        ValueMove::Trip => ValueMove::Go(KEPT),
-        ValueMove::Go(q) => {
-            let sofar = low + 1;
-            if k as u64 <= sofar {
-                ValueMove::Go(MISSED)
-            } else {
-                ValueMove::Go(q * BYTE + sofar)
-            }
-        }
+    let Some(q) = row_move(work, actions, i, value / BYTE % BYTE, action) else {
+        return Some(KEPT);
+    };
+    let sofar = low + 1;
+    if u64::from(k) <= sofar {
+        Some(MISSED)
+    } else {
+        Some(q * BYTE + sofar)
     }
 }
 
@@ -203,19 +195,19 @@ fn ignoring_step(
     i: u8,
     value: u64,
     action: usize,
-) -> ValueMove
+) -> Option<u64>
     requires { Steppable work.now (NodeRule.Ignoring set i) × (actions ≤ 16) × (action < actions) }
     ensures { move_of result ≡ code_step actions work.now (NodeRule.Ignoring set i) value action }
 {
     let row = value % BYTE;
     if in_set(set, action) {
-        return ValueMove::Go(row);
+        return Some(row);
     }
     row_move(work, actions, i, row, action)
 }
 
 // Where an action leads from a remembered value.
-pub fn step(rule: NodeRule, work: &[u8], actions: usize, value: u64, action: usize) -> ValueMove
+pub fn step(rule: NodeRule, work: &[u8], actions: usize, value: u64, action: usize) -> Option<u64>
     requires { Steppable work.now rule × (actions ≤ 16) × (action < actions) }
     ensures { move_of result ≡ code_step actions work.now rule value action }
 {

@@ -24,7 +24,7 @@ slot-past work i k h = sym (get_or-eq_default (slot_at work i) 255 (omega (arith
 pub returns-then-k-lt-SLOT_LENGTH : goal.returns-then-k-lt-SLOT_LENGTH
 returns-then-k-lt-SLOT_LENGTH c =
     let a = c.args in
-    slot-within a.work.now a.i a.k (search rules) (search rules)
+    rw c.from.ensures (slot-within a.work.now a.i a.k (search rules) (search rules))
 
 pub returns-else-k-lt-SLOT_LENGTH : goal.returns-else-k-lt-SLOT_LENGTH
 returns-else-k-lt-SLOT_LENGTH c = slot-past c.args.work.now c.args.i c.args.k (search rules)

@@ -2,70 +2,17 @@
 use mathlib.Core.Path.{◌≡◌, sym, ◌∙◌, ap}
 use mathlib.Core.List.{List}
 use Prim.Native.Nat.{ℕ, ◌%◌}
-use native.Mathlib.Omega.{arith}
 use Rattle.trace.specs.Trace.{Move}
 use Rattle.rules.specs.declared.NodeRule.{NodeRule}
-use Rattle.rules.specs.Rules.{part_at, move_of, Steppable}
+use Rattle.rules.specs.Rules.{part_at, move_of}
 use Rattle.rules.specs.Steps.{code_step}
 use Rattle.rules.proofs.Stepping.{plain, copied-code}
 use Rattle.rules.proofs.steps.step.Goals as goal
 
--- what is asked of a rule is asked of the one that it is known to be
-known : {work : List ℕ} {rule is : NodeRule} → rule ≡ is → Steppable work rule → Steppable work is
-known e h = rw e at h
-
--- and so is its step
+-- the step of a rule is that of the rule that it is known to be
 stepped : (actions : ℕ) (work : List ℕ) (value action : ℕ) {m : Move ℕ} {rule is : NodeRule} → rule ≡ is
     → m ≡ code_step actions work is value action → m ≡ code_step actions work rule value action
 stepped actions work value action e h = h ∙ ap (λ (r : NodeRule). code_step actions work r value action) (sym e)
-
-pub row_move-requires : goal.row_move-requires
-row_move-requires c =
-    let start = c in
-    let given = known c.in-Same.is start.requires.0 in
-    (given.room, given.parts, start.requires.1, start.requires.2, omega arith)
-
-pub both_step-requires : goal.both_step-requires
-both_step-requires c =
-    let start = c in
-    let given = known c.in-Both.is start.requires.0 in
-    (given, start.requires.1, start.requires.2)
-
-pub either_step-requires : goal.either_step-requires
-either_step-requires c =
-    let start = c in
-    let given = known c.in-Either.is start.requires.0 in
-    (given, start.requires.1, start.requires.2)
-
-pub move_copies-requires : goal.move_copies-requires
-move_copies-requires c =
-    let start = c in
-    let given = known c.in-Copied.is start.requires.0 in
-    (given.room, given.parts, start.requires.1, start.requires.2)
-
-pub before_step-requires : goal.before_step-requires
-before_step-requires c =
-    let start = c in
-    let given = known c.in-Before.is start.requires.0 in
-    (given, start.requires.1, start.requires.2)
-
-pub after_step-requires : goal.after_step-requires
-after_step-requires c =
-    let start = c in
-    let given = known c.in-After.is start.requires.0 in
-    (given, start.requires.1, start.requires.2)
-
-pub fulfilling_step-requires : goal.fulfilling_step-requires
-fulfilling_step-requires c =
-    let start = c in
-    let given = known c.in-Fulfilling.is start.requires.0 in
-    (given, start.requires.1, start.requires.2)
-
-pub ignoring_step-requires : goal.ignoring_step-requires
-ignoring_step-requires c =
-    let start = c in
-    let given = known c.in-Ignoring.is start.requires.0 in
-    (given, start.requires.1, start.requires.2)
 
 pub returns-in-Opening : goal.returns-in-Opening
 returns-in-Opening c =
