@@ -18,8 +18,7 @@ pub fn place_bytes(area: &[u8], place: usize) -> &[u8]
     ensures { result.now ≡ place_bytes area.now place }
 {
     let from = start_of(place);
-    let to = from + PLACE_LENGTH;
-    &area[from..to]
+    &area[from..from + PLACE_LENGTH]
 }
 
 // Writes bytes to the front of a place, and zeros after them.
@@ -29,8 +28,7 @@ pub fn write_place(area: &mut [u8], place: usize, bytes: &[u8])
     ensures { area.new ≡ with_bytes area.old place bytes.now }
 {
     let from = start_of(place);
-    let to = from + PLACE_LENGTH;
-    let end = from + bytes.len();
-    base::copy(bytes, &mut area[from..end]);
-    base::clear(&mut area[end..to]);
+    let part = &mut area[from..from + PLACE_LENGTH];
+    part[..bytes.len()].copy_from_slice(bytes);
+    part[bytes.len()..].fill(0);
 }

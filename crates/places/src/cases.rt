@@ -31,21 +31,14 @@ pub fn case_at(board: Board, place: usize) -> Case
     requires { place < place_count }
     ensures { result ≡ case_at board place }
 {
-    let places = board.places;
-    let p = places[place];
-    p.case
+    board.places[place].case
 }
 
 // Whether a case is that of a taken place.
 pub fn taken(case: Case) -> bool
     ensures { result ≡ taken_case case }
 {
-    match case {
-        Case::Empty => false,
-        Case::Enforced(_) => true,
-        Case::Watched(_) => true,
-        Case::Fulfilled => true,
-    }
+    !matches!(case, Case::Empty)
 }
 
 // The board with another case at a place.
