@@ -9,7 +9,11 @@ use places::Case;
 
 // A rule under an action: its next case, whether it denies the action, and whether the action fulfils it.
 #[derive(Clone, Copy)]
-pub struct Stepped(pub Case, pub bool, pub bool);
+pub struct Stepped {
+    pub next: Case,
+    pub denies: bool,
+    pub fulfilled: bool,
+}
 
 // A watched rule that trips is fulfilled.
 fn watched_move(entry: u8) -> Case
@@ -24,12 +28,26 @@ fn watched_move(entry: u8) -> Case
 
 // A rule under an action, by the entry in its row. A fulfilled rule stays so.
 pub fn step(case: Case, entry: u8) -> Stepped
-    ensures { MovesBy case entry result.0 result.1 result.2 }
+    ensures { MovesBy case entry result.next result.denies result.fulfilled }
 {
+    let trips = entry == 255;
+    let stays = Stepped {
+        next: case,
+        denies: false,
+        fulfilled: false,
+    };
     match case {
-        Case::Empty => Stepped(case, false, false),
-        Case::Enforced(_) => Stepped(Case::Enforced(entry), entry == 255, false),
-        Case::Watched(_) => Stepped(watched_move(entry), false, entry == 255),
-        Case::Fulfilled => Stepped(case, false, false),
+        Case::Empty => stays,
+        Case::Enforced(_) => Stepped {
+            next: Case::Enforced(entry),
+            denies: trips,
+            ..stays
+        },
+        Case::Watched(_) => Stepped {
+            next: watched_move(entry),
+            fulfilled: trips,
+            ..stays
+        },
+        Case::Fulfilled => stays,
     }
 }
