@@ -1,8 +1,6 @@
 -- Partitions of the states 0 .. states - 1 into classes, numbered by their first members, and what partition refinement answers.
 -- Assumes nothing.
-use Rattle.std.specs.Prelude.{◌≡◌, List, ℕ, ◌+◌, ◌*◌, ◌≤◌, ◌<◌, length, get_or}
-use Rattle.automaton.specs.declared.Refined.{Refined}
-use Rattle.automaton.specs.declared.Refined.TheVariants.{Classes, TooMany}
+use Rattle.std.specs.Prelude.{◌≡◌, List, ℕ, ◌+◌, ◌*◌, ◌≤◌, ◌<◌, length, get_or, Option, Some, None}
 
 -- The class of a state, 255 for what is no state, so that a trip has a class of its own.
 abbrev pub class_of : List ℕ → ℕ → ℕ
@@ -34,10 +32,10 @@ pub record Over (R : ℕ → ℕ → Type 0) (states limit : ℕ) : Type 0 where
   pub inside : (c : ℕ) → c ≤ limit → pick c < states
   pub apart : (c d : ℕ) → c < d → d ≤ limit → R (pick c) (pick d) → ⊥
 
--- What splitting the states by a relation answers: the classes, at most `limit`, or that there are more.
-abbrev pub SplitsTo : (R : ℕ → ℕ → Type 0) (states limit : ℕ) → Refined → List ℕ → List ℕ → Type 0
-SplitsTo R states limit (Classes count) classes firsts = (count ≤ limit) × Partition R states count classes firsts
-SplitsTo R states limit TooMany classes firsts = Over R states limit
+-- What splitting the states by a relation answers: the number of classes, at most `limit`, or none where there are more.
+abbrev pub SplitsTo : (R : ℕ → ℕ → Type 0) (states limit : ℕ) → Option ℕ → List ℕ → List ℕ → Type 0
+SplitsTo R states limit (Some count) classes firsts = (count ≤ limit) × Partition R states count classes firsts
+SplitsTo R states limit None classes firsts = Over R states limit
 
 -- The lowest class whose first member has the signature of s, or `count` where none has.
 pub record ClassFound (actions : ℕ) (next classes firsts : List ℕ) (count s found : ℕ) : Type 0 where

@@ -3,7 +3,7 @@
 use mathlib.Core.Path.{◌≡◌, refl, sym, ap, subst, ◌∙◌}
 use mathlib.Core.Bool.{Bool, true, false, ◌&&◌}
 use mathlib.Core.List.{List}
-use Prim.Native.Nat.{ℕ, zero, suc, ◌+◌, ◌*◌, ◌≤◌, ◌<◌}
+use Prim.Native.Nat.{ℕ, zero, suc, ◌+◌, ◌*◌, ◌≤◌, ◌<◌, min}
 use native.Mathlib.Decide.{ℕ_discrete, dec_lt}
 use native.Mathlib.Omega.{arith}
 use lib.Arith.{digits_lt}
@@ -148,8 +148,8 @@ pub record Least (next far : List ℕ) (row a least : ℕ) : Type 0 where
 pub least-none : (next far : List ℕ) (row : ℕ) → Least next far row 0 254
 least-none next far row = record { small = omega arith; below = λ b h. absurd (omega arith); found = λ h. absurd (omega arith) }
 
-pub least_more : (next far : List ℕ) (row a least x r : ℕ) → Least next far row a least → x ≡ behind_entry next far (row + a)
-    → (r ≤ least) × (r ≤ x) × (r < least → r ≡ x) → Least next far row (a + 1) r
+pub least_more : (next far : List ℕ) (row a least x r : ℕ) → Least next far row a least → x ≡ behind_entry next far (row + a) → r ≡ min least x
+    → Least next far row (a + 1) r
 least_more next far row a least x r l e h = record { small = omega (arith, l.small); below = below; found = found }
   where
     below : (b : ℕ) → b < a + 1 → r ≤ behind_entry next far (row + b)
@@ -158,7 +158,7 @@ least_more next far row a least x r l e h = record { small = omega (arith, l.sma
     found : r < 254 → (b : ℕ) × (b < a + 1) × (behind_entry next far (row + b) ≡ r)
     found g =
         elim (dec_lt r least) [
-          | yes p ↦ (a, omega arith, sym e ∙ sym (h.2 p))
+          | yes p ↦ (a, omega arith, omega arith)
           | no p ↦ let q : r ≡ least = omega arith in let f = l.found (omega arith) in (f.0, omega (arith, f.1), f.2 ∙ sym q)
         ]
 

@@ -1,7 +1,7 @@
 -- The distance of a state: the length of the shortest sequence that trips from it, 255 where no sequence of up to 254 actions does. Alike states have
 -- one distance, so that refinement begins with the states split by theirs.
 -- Assumes nothing.
-use Rattle.std.specs.Prelude.{◌≡◌, true, cond, List, ℕ, suc, ◌+◌, ◌*◌, ◌≤◌, ◌<◌, leb, length, get_or}
+use Rattle.std.specs.Prelude.{◌≡◌, true, List, ℕ, suc, ◌+◌, ◌*◌, ◌≤◌, ◌<◌, length, get_or}
 use Rattle.trace.specs.Trace.{Sequence, trips}
 use Rattle.automaton.specs.Machine.{transition}
 
@@ -40,7 +40,3 @@ pub record Tripping (mark actions : ℕ) (next : List ℕ) (s count : ℕ) : Typ
 -- Two states have one number.
 abbrev pub SameNumber : List ℕ → ℕ → ℕ → Type 0
 SameNumber numbers s t = get_or numbers s 0 ≡ get_or numbers t 0
-
--- The class of a number by a list of the numbers so far, 64 for one that no state has had: `count` for that.
-abbrev pub class_for : (known : List ℕ) (number count : ℕ) → ℕ
-class_for known number count = cond (leb 64 (get_or known number 0)) count (get_or known number 0)

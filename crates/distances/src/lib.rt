@@ -2,27 +2,16 @@
 #![tactic(auto)]
 
 ghost use Rattle.std.specs.Prelude.{◌≡◌, true, ℕ, ◌+◌, ◌*◌, ◌≤◌, ◌<◌, length};
-ghost use Rattle.distances.specs.Distances.{behind_entry, OneFurther, NotBelow, NotAbove, Distances, SameNumber, class_for};
+ghost use Rattle.distances.specs.Distances.{behind_entry, OneFurther, NotBelow, NotAbove, Distances, SameNumber};
 ghost use Rattle.automaton.specs.Partition.{SplitsTo};
-
-use automaton::Refined;
-use base::{byte, fill};
-use signatures::index;
 
 // The distance behind entry k, 0 for a trip.
 fn behind_entry(next: &[u16], far: &[u8], k: usize) -> u8
     requires { k < length next.now }
     ensures { result ≡ behind_entry next.now far.now k }
 {
-    let s = index(next[k]);
+    let s = usize::from(next[k]);
     if s < far.len() { far[s] } else { 0 }
-}
-
-// The smaller of two.
-fn smaller(a: u8, b: u8) -> u8
-    ensures { (result ≤ a) × (result ≤ b) × ((result < a) → result ≡ b) }
-{
-    if b < a { b } else { a }
 }
 
 // One more than the least distance behind a state's entries, which begin at `row`; at most 255.
@@ -31,10 +20,8 @@ fn one_further(next: &[u16], far: &[u8], row: usize, actions: usize) -> u8
     ensures { OneFurther next.now far.now row actions result }
 {
     let mut least = 254u8;
-    let mut a = 0;
-    while a < actions {
-        least = smaller(least, behind_entry(next, far, row + a));
-        a += 1;
+    for a in 0..actions {
+        least = least.min(behind_entry(next, far, row + a));
     }
     least + 1
 }
@@ -47,14 +34,10 @@ fn sweep(next: &[u16], actions: usize, far: &mut [u8]) -> bool
     ensures not_above { result ≡ true → (s : ℕ) → s < length far.new → NotAbove actions next.now far.new s }
 {
     let mut settled = true;
-    let mut left = far.len();
-    while 0 < left {
-        left -= 1;
-        let s = left;
-        let before = far[s];
+    for s in (0..far.len()).rev() {
         let further = one_further(next, far, s * actions, actions);
+        settled &= far[s] == further;
         far[s] = further;
-        settled = settled & (before == further);
     }
     settled
 }
@@ -64,10 +47,8 @@ pub fn measure(next: &[u16], actions: usize, far: &mut [u8]) -> bool
     requires { length next.now ≡ length far.old * actions }
     ensures { result ≡ true → Distances actions next.now far.new }
 {
-    fill(far, 255);
-    let mut left: usize = 8;
-    while 0 < left {
-        left -= 1;
+    far.fill(255);
+    for _ in 0..8 {
         if sweep(next, actions, far) {
             return true;
         }
@@ -75,36 +56,34 @@ pub fn measure(next: &[u16], actions: usize, far: &mut [u8]) -> bool
     false
 }
 
-// The class of a number, or `count` where no state has had it.
-fn class_for(known: &[u8; 256], number: usize, count: usize) -> usize
-    requires { (length known.now ≡ 256) × (number < 256) }
-    ensures { result ≡ class_for known.now number count }
-{
-    let class = byte(known[number]);
-    if class < 64 { class } else { count }
-}
-
-// Splits the states by a number of each.
-pub fn split(numbers: &[u8], classes: &mut [u8], firsts: &mut [usize], limit: usize) -> Refined
+// Splits the states by a number of each: the number of classes, or none where there are more than the limit.
+pub fn split(
+    numbers: &[u8],
+    classes: &mut [u8],
+    firsts: &mut [usize],
+    limit: usize,
+) -> Option<usize>
     requires { (length classes.old ≡ length numbers.now) × (limit ≤ 64) × (limit ≤ length firsts.old) }
     ensures { SplitsTo (SameNumber numbers.now) (length numbers.now) limit result classes.new firsts.new }
 {
-    let mut known = [64u8; 256];
+    let mut known = [None; 256];
     let mut count = 0;
-    let mut s = 0;
-    while s < numbers.len() {
-        let number = byte(numbers[s]);
-        let c = class_for(&known, number, count);
-        if c == count {
-            if count == limit {
-                return Refined::TooMany;
+    for (s, number) in numbers.iter().enumerate() {
+        let number = usize::from(*number);
+        let class = match known[number] {
+            Some(class) => class,
+            None => {
+                if count == limit {
+                    return None;
+                }
+                let class = count as u8;
+                known[number] = Some(class);
+                firsts[count] = s;
+                count += 1;
+                class
             }
-            firsts[count] = s;
-            count += 1;
-        }
-        known[number] = c as u8;
-        classes[s] = c as u8;
-        s += 1;
+        };
+        classes[s] = class;
     }
-    Refined::Classes(count)
+    Some(count)
 }

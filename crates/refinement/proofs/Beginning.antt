@@ -8,8 +8,7 @@ use Rattle.automaton.specs.Machine.{AlikeStates}
 use Rattle.automaton.specs.Partition.{SplitsTo}
 use Rattle.distances.specs.Distances.{Distances, SameNumber}
 use Rattle.refinement.specs.Refining.{BeginsWith}
-use Rattle.automaton.specs.declared.Refined.{Refined}
-use Rattle.automaton.specs.declared.Refined.TheVariants.{Classes, TooMany}
+use Rattle.std.proofs.Common.{Option, Some, None}
 use Rattle.automaton.proofs.Classes.{related-class}
 use Rattle.refinement.proofs.Counted.{partition-classified}
 use Rattle.distances.proofs.Measured.{alike-distance}
@@ -17,9 +16,9 @@ use Rattle.distances.proofs.Numbers.{number-equivalence}
 use Rattle.automaton.proofs.Rising.{partition-grows}
 use Rattle.automaton.proofs.Splits.{over-map}
 
-pub begins-with : (actions limit : ℕ) (next far classes firsts : List ℕ) → Distances actions next far → length classes ≡ length far → (r : Refined)
+pub begins-with : (actions limit : ℕ) (next far classes firsts : List ℕ) → Distances actions next far → length classes ≡ length far → (r : Option ℕ)
     → SplitsTo (SameNumber far) (length far) limit r classes firsts → BeginsWith (length far) actions limit next r classes
-begins-with actions limit next far classes firsts d paired (Classes count) p =
+begins-with actions limit next far classes firsts d paired (Some count) p =
     record {
       few = p.0;
       paired = paired;
@@ -29,5 +28,5 @@ begins-with actions limit next far classes firsts d paired (Classes count) p =
         same = λ s t hs ht e. related-class p.1 (number-equivalence far) s t hs ht (alike-distance mark (length far) actions next far m refl d s t hs ht e);
       };
     }
-begins-with actions limit next far classes firsts d paired TooMany o =
+begins-with actions limit next far classes firsts d paired None o =
     λ mark m. over-map (AlikeStates mark actions next) (SameNumber far) (length far) (alike-distance mark (length far) actions next far m refl d) limit o

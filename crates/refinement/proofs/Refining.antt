@@ -7,8 +7,7 @@ use native.Mathlib.Omega.{arith}
 use lib.ListN.{length, replicate, get_or-replicate, length-replicate}
 use Rattle.automaton.specs.Machine.{Machine, AlikeStates}
 use Rattle.automaton.specs.Partition.{class_of, SameSignature, Partition, Over, SplitsTo}
-use Rattle.automaton.specs.declared.Refined.{Refined}
-use Rattle.automaton.specs.declared.Refined.TheVariants.{Classes, TooMany}
+use Rattle.std.proofs.Common.{Option, Some, None}
 use Rattle.automaton.proofs.Compared.{signature-equivalence}
 use Rattle.refinement.specs.Refining.{Refining}
 use Rattle.refinement.proofs.Counted.{one-classified, partition-classified, no-fewer}
@@ -33,14 +32,14 @@ one-refining states actions limit next classes h some e =
     zeros s g = rw e (get_or-replicate states s 0 255 g)
 
 module _ (states actions limit count : ℕ) (next classes : List ℕ) (r : Refining states actions limit count next classes)
-    (found : Refined) (split firsts : List ℕ) (p : SplitsTo (SameSignature actions next classes) (length classes) limit found split firsts) where
+    (found : Option ℕ) (split firsts : List ℕ) (p : SplitsTo (SameSignature actions next classes) (length classes) limit found split firsts) where
   -- a pass that finds too many classes
-  pub too_many : found ≡ TooMany → (mark : ℕ) → Machine mark states actions next → Over (AlikeStates mark actions next) states limit
+  pub too_many : found ≡ None → (mark : ℕ) → Machine mark states actions next → Over (AlikeStates mark actions next) states limit
   too_many e mark m =
       over-alike mark states actions next classes m r.paired (r.sound mark m) limit
       (rw (e, r.paired) at p)
 
-  module _ (finer : ℕ) (e : found ≡ Classes finer) where
+  module _ (finer : ℕ) (e : found ≡ Some finer) where
     split-by : (finer ≤ limit) × Partition (SameSignature actions next classes) states finer split firsts
     split-by = rw (e, r.paired) at p
 

@@ -1,10 +1,8 @@
 -- What holds between the passes of a refinement, and what it begins with.
 -- Assumes nothing.
-use Rattle.std.specs.Prelude.{◌≡◌, List, ℕ, ◌≤◌, ◌<◌, length}
+use Rattle.std.specs.Prelude.{◌≡◌, List, ℕ, ◌≤◌, ◌<◌, length, Option, Some, None}
 use Rattle.automaton.specs.Machine.{Machine, AlikeStates}
 use Rattle.automaton.specs.Partition.{class_of, Over, RestrictedGrowth}
-use Rattle.automaton.specs.declared.Refined.{Refined}
-use Rattle.automaton.specs.declared.Refined.TheVariants.{Classes, TooMany}
 
 -- `count` classes, each of some state.
 pub record Classified (states count : ℕ) (classes : List ℕ) : Type 0 where
@@ -26,6 +24,6 @@ pub record Refining (states actions limit count : ℕ) (next classes : List ℕ)
   pub sound : (mark : ℕ) → Machine mark states actions next → Coarser mark states actions next classes
 
 -- What a refinement begins with: such classes, or that there are too many.
-abbrev pub BeginsWith : (states actions limit : ℕ) (next : List ℕ) → Refined → List ℕ → Type 0
-BeginsWith states actions limit next (Classes count) classes = Refining states actions limit count next classes
-BeginsWith states actions limit next TooMany classes = (mark : ℕ) → Machine mark states actions next → Over (AlikeStates mark actions next) states limit
+abbrev pub BeginsWith : (states actions limit : ℕ) (next : List ℕ) → Option ℕ → List ℕ → Type 0
+BeginsWith states actions limit next (Some count) classes = Refining states actions limit count next classes
+BeginsWith states actions limit next None classes = (mark : ℕ) → Machine mark states actions next → Over (AlikeStates mark actions next) states limit

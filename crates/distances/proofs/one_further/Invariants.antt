@@ -1,10 +1,6 @@
 -- `distances::one_further` meets its contract. The loop's invariant: the least of 254 and what stands behind the entries before a.
-use Prim.Native.Nat.{◌-◌, ◌≤◌}
 use Rattle.distances.proofs.Measured.{Least}
 use Rattle.distances.proofs.one_further.Given as goal
 
 abbrev pub invariant-loop-a : goal.invariant-loop-a
-invariant-loop-a l = (l.a ≤ l.actions) × Least l.next l.far l.row l.a l.least
-
-abbrev pub decreases-loop-a : goal.decreases-loop-a
-decreases-loop-a l = l.actions - l.a
+invariant-loop-a l = Least l.next l.far l.row l.a l.least

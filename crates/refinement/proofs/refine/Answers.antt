@@ -6,8 +6,7 @@ use native.Mathlib.Omega.{arith}
 use lib.ListN.{length}
 use Rattle.automaton.specs.Machine.{AlikeStates, Machine}
 use Rattle.automaton.specs.Partition.{Over, Partition}
-use Rattle.automaton.specs.declared.Refined.{Refined}
-use Rattle.automaton.specs.declared.Refined.TheVariants.{Classes, TooMany}
+use Rattle.std.proofs.Common.{Option, Some, None}
 use Rattle.refinement.specs.Refining.{Refining, BeginsWith}
 use Rattle.refinement.proofs.Refining.{too_many, no-fewer-found, refines, stable}
 use Rattle.base.proofs.Lists.{stored-all}
@@ -25,7 +24,7 @@ module _ (c : After-begin-begun) where
   begun : {r : Refined} → c.begin-begun.result ≡ r
       → BeginsWith (length before.args.classes.now) before.args.actions before.args.limit before.args.next.now r begun-classes
   begun e =
-      subst (λ (r : Refined). BeginsWith (length before.args.classes.now) before.args.actions before.args.limit before.args.next.now r begun-classes) e
+      subst (λ (r : Option ℕ). BeginsWith (length before.args.classes.now) before.args.actions before.args.limit before.args.next.now r begun-classes) e
       c.begin-begun.ensures
 
 pub returns-in_default : goal.returns-in_default
@@ -89,10 +88,10 @@ module _ (c : After-pass-found) where
   abbrev IsMachine : ℕ → Type 0
   IsMachine mark = Machine mark (length (start turn).args.classes.now) (start turn).args.actions (start turn).args.next.now
 
-  found-too-many : c.pass-found.result ≡ TooMany → (mark : ℕ) → IsMachine mark → Over (Alike mark) (length (start turn).args.classes.now) (start turn).args.limit
+  found-too-many : c.pass-found.result ≡ None → (mark : ℕ) → IsMachine mark → Over (Alike mark) (length (start turn).args.classes.now) (start turn).args.limit
   found-too-many e = rw (← all-states turn) (too_many _ _ _ _ _ _ (still-refining turn) c.pass-found.result split firsts-found c.pass-found.ensures e)
 
-  module _ (finer : ℕ) (e : c.pass-found.result ≡ Classes finer) where
+  module _ (finer : ℕ) (e : c.pass-found.result ≡ Some finer) where
     found-no-fewer : turn.loop-finer.count ≤ finer
     found-no-fewer = no-fewer-found _ _ _ _ _ _ (still-refining turn) c.pass-found.result split firsts-found c.pass-found.ensures finer e
 
@@ -119,7 +118,7 @@ module _ (c : After-copy) where
   abbrev finer-count : ℕ
   finer-count = c.in-Classes-found.finer
 
-  is-finer : passed.pass-found.result ≡ Classes finer-count
+  is-finer : passed.pass-found.result ≡ Some finer-count
   is-finer = c.in-Classes-found.is
 
   copied : c.copy.new.to ≡ split passed
