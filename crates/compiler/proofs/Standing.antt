@@ -3,6 +3,7 @@
 -- Assumes nothing.
 use mathlib.Core.Path.{◌≡◌, subst}
 use mathlib.Core.List.{List, []}
+use Rattle.std.specs.Prelude.{Ok, Err}
 use Prim.Native.Nat.{ℕ, ◌*◌, ◌-◌, ◌≤◌, ◌<◌}
 use native.Mathlib.Omega.{arith}
 use lib.ListN.{take}
@@ -26,7 +27,6 @@ use Rattle.node_rules.proofs.Facts.{rule-facts}
 use Rattle.compiler.specs.Limits.{Built}
 use Rattle.compiler.specs.Compiles.{PolicyNode, Builds, passes}
 use Rattle.compiler.specs.Building.{Stands, NodesStand, SheetTo}
-use Rattle.compiler.specs.declared.NodesBuilt.TheVariants.{Refused, Rows}
 use Rattle.compiler.specs.declared.Refusal.TheVariants.{TooManyValues, TooManyRows}
 use Rattle.compiler.proofs.BuiltNodes as nodes
 use Rattle.compiler.proofs.SlotTables.{slot-part}
@@ -112,14 +112,14 @@ module _ {mode : Mode} {sheet : Sheet} {types : List TypedNode} (right : SoundSh
 module _ (bytes : List ℕ) {mode : Mode} {sheet : Sheet} {types : List TypedNode} (limits : Limits) (judged : judge bytes ≡ sound mode sheet types)
     (right : SoundSheet mode sheet types) (small : limits.rows ≤ 64) (work : List ℕ) where
   pub sheet-values : (n : ℕ) → ValuesOver (sheet_rules sheet types) sheet.count sheet.actions limits n work
-      → SheetTo bytes limits (Refused (TooManyValues n)) sheet work
+      → SheetTo bytes limits (Err (TooManyValues n)) work
   sheet-values n o = passes _ _ _ judged _ _ (values-over right limits small work n o)
 
   pub sheet-rows : (n : ℕ) → RowsOver (sheet_rules sheet types) sheet.count sheet.actions limits n work
-      → SheetTo bytes limits (Refused (TooManyRows n)) sheet work
+      → SheetTo bytes limits (Err (TooManyRows n)) work
   sheet-rows n o = passes _ _ _ judged _ _ (rows-over right limits small work n o)
 
   pub sheet-built : (rows : ℕ) → BuiltTo (sheet_rules sheet types) sheet.actions limits sheet.count work
       → LastRows (sheet_rules sheet types) sheet.actions limits sheet.count rows work
-      → SheetTo bytes limits (Rows mode rows) sheet work
+      → SheetTo bytes limits (Ok (record { mode = mode; rows = rows; sheet = sheet })) work
   sheet-built rows built newest = record { types = types; judged = judged; nodes = nodes-stand right limits small work built rows newest }

@@ -1,6 +1,6 @@
 -- What building a sheet's used nodes leaves in the work area: the rows of each policy node at the front of its slot.
 -- Assumes nothing.
-use Rattle.std.specs.Prelude.{◌≡◌, List, [], ℕ, ◌*◌, ◌-◌, ◌<◌, take}
+use Rattle.std.specs.Prelude.{◌≡◌, List, [], ℕ, Result, Ok, Err, ◌*◌, ◌-◌, ◌<◌, take}
 use Rattle.trace.specs.declared.Mode.{Mode}
 use Rattle.limits.specs.declared.Limits.{Limits}
 use Rattle.table.specs.Answer.{refused}
@@ -13,8 +13,8 @@ use Rattle.node_rules.specs.Nodes.{Tables, part_of}
 use Rattle.compiler.specs.Limits.{Built}
 use Rattle.compiler.specs.Refusals.{number_of_refusal, spot_of_refusal}
 use Rattle.compiler.specs.Compiles.{PolicyNode, BuiltBefore, Compiles}
-use Rattle.compiler.specs.declared.NodesBuilt.{NodesBuilt}
-use Rattle.compiler.specs.declared.NodesBuilt.TheVariants.{Refused, Rows}
+use Rattle.compiler.specs.declared.BuiltSheet.{BuiltSheet}
+use Rattle.compiler.specs.declared.Refusal.{Refusal}
 
 -- The slot of node i can be read, and is the machine of its rows.
 pub record Stands (sheet : Sheet) (tables : Tables) (work : List ℕ) (i : ℕ) : Type 0 where
@@ -37,6 +37,6 @@ pub record SheetStands (bytes : List ℕ) (limits : Limits) (mode : Mode) (sheet
   pub nodes : NodesStand sheet types limits rows work
 
 -- What building any bytes answers, and leaves in the work area.
-abbrev pub SheetTo : List ℕ → (limits : Limits) → NodesBuilt → Sheet → List ℕ → Type 0
-SheetTo bytes limits (Refused r) sheet work = Compiles bytes limits (refused (number_of_refusal r) (spot_of_refusal r)) []
-SheetTo bytes limits (Rows mode rows) sheet work = SheetStands bytes limits mode sheet rows work
+abbrev pub SheetTo : List ℕ → (limits : Limits) → Result BuiltSheet Refusal → List ℕ → Type 0
+SheetTo bytes limits (Err r) work = Compiles bytes limits (refused (number_of_refusal r) (spot_of_refusal r)) []
+SheetTo bytes limits (Ok built) work = SheetStands bytes limits built.mode built.sheet built.rows work

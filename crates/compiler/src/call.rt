@@ -6,12 +6,12 @@ ghost use Rattle.table.specs.Table.{largest_table};
 ghost use Rattle.making.specs.Making.{Lent, Zeroed};
 ghost use Rattle.compiler.specs.Calling.{answer_of, CompilesTo, CompilesInto};
 
+use crate::CompileError;
 use crate::building::build_sheet;
-use crate::{Compiled, NodesBuilt};
 use limits::{LARGEST, Limits, NUMBERS_LENGTH, WORK_LENGTH};
 use machine_tables::write_rows;
 use making::long_enough;
-use table::LARGEST_TABLE;
+use table::{Header, LARGEST_TABLE};
 
 // Compiles a sheet with any limits.
 fn compile_with(
@@ -20,30 +20,28 @@ fn compile_with(
     work: &mut [u8],
     values: &mut [u64],
     limits: Limits,
-) -> Compiled
+) -> Result<Header, CompileError>
     requires { Lent limits out.old work.old values.old }
     ensures { CompilesTo sheet.now limits (answer_of result) out.old out.new }
 {
-    let standing = build_sheet(sheet, work, values, limits);
-    let built = standing.built;
-    match built {
-        NodesBuilt::Refused(refusal) => Compiled::Refused(refusal),
-        NodesBuilt::Rows { mode, rows } => {
-            let read = standing.sheet;
-            let count = read.count;
-            let actions = read.actions;
-            write_rows(mode, actions, rows, count - 1, work, out);
-            Compiled::Table {
-                mode,
-                actions,
-                rows,
-            }
-        }
-    }
+    let built = build_sheet(sheet, work, values, limits)?;
+    let header = Header {
+        mode: built.mode,
+        actions: built.sheet.actions,
+        rows: built.rows,
+    };
+    let last = built.sheet.count - 1;
+    write_rows(header.mode, header.actions, header.rows, last, work, out);
+    Ok(header)
 }
 
 // Compiles a sheet in work areas of their exact lengths, and zeroes them.
-fn compile_in(sheet: &[u8], out: &mut [u8], work: &mut [u8], values: &mut [u64]) -> Compiled
+fn compile_in(
+    sheet: &[u8],
+    out: &mut [u8],
+    work: &mut [u8],
+    values: &mut [u64],
+) -> Result<Header, CompileError>
     requires largest_table_in_bounds { largest_table ≤ length out.old }
     requires work_len { length work.old ≡ work_length }
     requires values_len { length values.old ≡ numbers_length }
@@ -52,13 +50,18 @@ fn compile_in(sheet: &[u8], out: &mut [u8], work: &mut [u8], values: &mut [u64])
     ensures zeroed_2 { Zeroed values.old values.new }
 {
     let compiled = compile_with(sheet, out, work, values, LARGEST);
-    base::fill(work, 0);
-    base::clear_numbers(values);
+    work.fill(0);
+    values.fill(0);
     compiled
 }
 
 // Compiles a sheet: answers, and writes the table to the front of `out`. Both work areas are zero on return.
-pub fn compile(sheet: &[u8], out: &mut [u8], work: &mut [u8], values: &mut [u64]) -> Compiled
+pub fn compile(
+    sheet: &[u8],
+    out: &mut [u8],
+    work: &mut [u8],
+    values: &mut [u64],
+) -> Result<Header, CompileError>
     ensures { CompilesInto sheet.now out.old work.old values.old (answer_of result) out.new work.new values.new }
 {
     if long_enough(LARGEST_TABLE, out.len(), work.len(), values.len()) {
@@ -69,5 +72,5 @@ pub fn compile(sheet: &[u8], out: &mut [u8], work: &mut [u8], values: &mut [u64]
             &mut values[..NUMBERS_LENGTH],
         );
     }
-    Compiled::ShortArea
+    Err(CompileError::ShortArea)
 }

@@ -7,7 +7,6 @@ mod refusals;
 
 pub use building::build_sheet;
 pub use call::compile;
-pub use refusals::{refusal_number, refusal_spot};
 use syntax::{Fault, Sheet};
 use trace::Mode;
 
@@ -19,28 +18,17 @@ pub enum Refusal {
     TooManyRows(usize),
 }
 
-// What compiling answers: a table, or that an area is too short, or what is refused.
+// Why compiling gives no table: an area is too short, or what is refused.
 #[derive(Clone, Copy)]
-pub enum Compiled {
-    Table {
-        mode: Mode,
-        actions: usize,
-        rows: usize,
-    },
+pub enum CompileError {
     ShortArea,
     Refused(Refusal),
 }
 
-// What building a sheet answers: its mode and the number of rows of its policy, where every node's rows stand in their slots; or what is refused.
-#[derive(Clone, Copy)]
-pub enum NodesBuilt {
-    Refused(Refusal),
-    Rows { mode: Mode, rows: usize },
-}
-
-// The same with the sheet, as far as it was read.
+// A sheet whose policy nodes' rows stand in their slots of the work area, with its mode and the number of rows of its policy.
 #[derive(Clone, Copy)]
 pub struct BuiltSheet {
-    pub built: NodesBuilt,
+    pub mode: Mode,
+    pub rows: usize,
     pub sheet: Sheet,
 }
