@@ -57,3 +57,6 @@ length-table mode actions rows entries h g =
       length-counts actions rows,
       length-rows actions rows entries h,
     )
+
+-- how long the pieces of rows can be
+pub ruleset lengths = (length-append, length-next, length-entries, length-row, length-rows)

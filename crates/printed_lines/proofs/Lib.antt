@@ -1,3 +1,2 @@
-pub mod EntryTexts
 pub mod Lengths
 pub mod Examples

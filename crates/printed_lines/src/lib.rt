@@ -1,110 +1,103 @@
 // The lines of a printed text, as defined in specs/Text.antt, written one piece after the other.
 #![tactic(auto)]
 
-ghost use Rattle.std.specs.Prelude.{◌+◌, ◌*◌, ◌≤◌, ◌<◌, length, get_or};
+ghost use Rattle.std.specs.Prelude.{◌≡◌, ◌++◌, ◌+◌, ◌*◌, ◌≤◌, ◌<◌, length};
 ghost use Rattle.printed_lines.specs.Text.{mode_word, spaced, counts, entry_text, next_text, entries_text, row_line, row_lines};
-ghost use Rattle.text_writer.specs.Writing.{Appends};
 
-use text_writer::{put, put_number, put_word};
+use text_writer::Text;
 use trace::Mode;
 
 // The word for a mode.
-pub fn put_mode(mode: Mode, text: &mut [u8], at: usize) -> usize
-    requires { at + 3 ≤ length text.old }
-    ensures { Appends text.old at (mode_word mode) text.new result }
+pub fn put_mode<const N: usize>(mode: Mode, text: &mut Text<N>)
+    requires { length text.old + 3 ≤ N }
+    ensures { text.new ≡ text.old ++ mode_word mode }
 {
     match mode {
-        Mode::Enforced => put_word(b"enf", text, at),
-        Mode::Watched => put_word(b"mon", text, at),
+        Mode::Enforced => text.put_word(b"enf"),
+        Mode::Watched => text.put_word(b"mon"),
     }
 }
 
 // A blank and a number.
-fn put_spaced(n: usize, text: &mut [u8], at: usize) -> usize
+fn put_spaced<const N: usize>(n: usize, text: &mut Text<N>)
     requires n_bound { n < 1000 }
-    requires at_in_bounds { at + 4 ≤ length text.old }
-    ensures { Appends text.old at (spaced n) text.new result }
+    requires room { length text.old + 4 ≤ N }
+    ensures { text.new ≡ text.old ++ spaced n }
 {
-    let next = put(b' ', text, at);
-    put_number(n, text, next)
+    text.put(b' ');
+    text.put_number(n);
 }
 
 // The two numbers that end a first line.
-pub fn put_counts(first: usize, second: usize, text: &mut [u8], at: usize) -> usize
+pub fn put_counts<const N: usize>(first: usize, second: usize, text: &mut Text<N>)
     requires first_bound { first < 1000 }
     requires second_bound { second < 1000 }
-    requires at_in_bounds { at + 9 ≤ length text.old }
-    ensures { Appends text.old at (counts first second) text.new result × (result ≤ at + 9) }
+    requires room { length text.old + 9 ≤ N }
+    ensures { text.new ≡ text.old ++ counts first second }
 {
-    let next = put_spaced(first, text, at);
-    let last = put_spaced(second, text, next);
-    put(b'\n', text, last)
+    put_spaced(first, text);
+    put_spaced(second, text);
+    text.put(b'\n');
 }
 
 // An entry.
-fn put_entry(entry: u8, text: &mut [u8], at: usize) -> usize
-    requires { at + 3 ≤ length text.old }
-    ensures { Appends text.old at (entry_text entry) text.new result }
+fn put_entry<const N: usize>(entry: u8, text: &mut Text<N>)
+    requires { length text.old + 3 ≤ N }
+    ensures { text.new ≡ text.old ++ entry_text entry }
 {
-    let e = base::byte(entry);
+    let e = usize::from(entry);
     let trips = e == 255;
     if trips {
-        return put(b'-', text, at);
+        text.put(b'-');
+    } else {
+        text.put_number(e);
     }
-    put_number(e, text, at)
 }
 
 // Entry k of a row, behind a blank where it is not the first.
-fn put_next(row: &[u8], k: usize, text: &mut [u8], at: usize) -> usize
-    requires k_in_bounds { k < length row.now }
-    requires at_in_bounds { at + 4 ≤ length text.old }
-    ensures { Appends text.old at (next_text k (get_or row.now k 0)) text.new result }
+fn put_next<const N: usize>(k: usize, entry: u8, text: &mut Text<N>)
+    requires { length text.old + 4 ≤ N }
+    ensures { text.new ≡ text.old ++ next_text k entry }
 {
     let first = k == 0;
-    if first {
-        return put_entry(row[k], text, at);
+    if !first {
+        text.put(b' ');
     }
-    let next = put(b' ', text, at);
-    put_entry(row[k], text, next)
+    put_entry(entry, text);
 }
 
 // The entries of a row.
-fn put_entries(row: &[u8], text: &mut [u8], at: usize) -> usize
-    requires { at + 4 * length row.now ≤ length text.old }
-    ensures { Appends text.old at (entries_text row.now (length row.now)) text.new result }
+#[tactic(auto, using(crate::proofs::Lengths::lengths))]
+fn put_entries<const N: usize>(row: &[u8], text: &mut Text<N>)
+    requires { length text.old + 4 * length row.now ≤ N }
+    ensures { text.new ≡ text.old ++ entries_text row.now (length row.now) }
 {
-    let mut end = at;
-    let mut k = 0;
-    while k < row.len() {
-        end = put_next(row, k, text, end);
-        k += 1;
+    for (k, entry) in row.iter().enumerate() {
+        put_next(k, *entry, text);
     }
-    end
 }
 
 // A row's line.
-fn put_row(row: &[u8], text: &mut [u8], at: usize) -> usize
-    requires { at + (4 * length row.now + 1) ≤ length text.old }
-    ensures { Appends text.old at (row_line row.now) text.new result }
+#[tactic(auto, using(crate::proofs::Lengths::lengths))]
+fn put_row<const N: usize>(row: &[u8], text: &mut Text<N>)
+    requires { length text.old + (4 * length row.now + 1) ≤ N }
+    ensures { text.new ≡ text.old ++ row_line row.now }
 {
-    let end = put_entries(row, text, at);
-    put(b'\n', text, end)
+    put_entries(row, text);
+    text.put(b'\n');
 }
 
 // The lines of all rows.
-pub fn put_rows(actions: usize, rows: usize, entries: &[u8], text: &mut [u8], at: usize) -> usize
+#[tactic(auto, using(crate::proofs::Lengths::lengths))]
+pub fn put_rows<const N: usize>(actions: usize, rows: usize, entries: &[u8], text: &mut Text<N>)
     requires actions_bound { actions ≤ 16 }
     requires actions_in_bounds { rows * actions ≤ length entries.now }
-    requires rows_in_bounds { at + 65 * rows ≤ length text.old }
-    ensures { Appends text.old at (row_lines actions rows entries.now) text.new result }
+    requires rows_in_bounds { length text.old + 65 * rows ≤ N }
+    ensures { text.new ≡ text.old ++ row_lines actions rows entries.now }
 {
-    let mut end = at;
-    let mut row = 0;
-    while row < rows {
+    for row in 0..rows {
         let from = row * actions;
         let to = from + actions;
-        end = put_row(&entries[from..to], text, end);
-        row += 1;
+        put_row(&entries[from..to], text);
     }
-    end
 }

@@ -1,10 +1,10 @@
 -- What the printing calls answer, and every byte of the text area.
 -- Assumes nothing.
-use Rattle.std.specs.Prelude.{List, ◌++◌, ℕ, ◌*◌, ◌≤◌, ◌<◌, length, drop}
+use Rattle.std.specs.Prelude.{List, ◌++◌, ℕ, ◌*◌, ◌≤◌, ◌<◌, length, drop, Result, Ok, Err}
 use Rattle.trace.specs.declared.Mode.{Mode}
 use Rattle.printed_lines.specs.Text.{table_text, refusal_text}
-use Rattle.printing.specs.declared.Printed.{Printed}
-use Rattle.printing.specs.declared.Printed.TheVariants.{Written, OutOfRange, ShortText}
+use Rattle.printing.specs.declared.PrintError.{PrintError}
+use Rattle.printing.specs.declared.PrintError.TheVariants.{OutOfRange, ShortText}
 
 -- An answer: so many bytes were written, or the number of a refusal. A text area that is too short is 14; values that no table, or no refusal,
 -- has are 10.
@@ -12,10 +12,10 @@ pub data PrintOutcome : Type 0 where
   wrote : (count : ℕ) → PrintOutcome
   refused : (number : ℕ) → PrintOutcome
 
-abbrev pub outcome_of : Printed → PrintOutcome
-outcome_of (Written count) = wrote count
-outcome_of OutOfRange = refused 10
-outcome_of ShortText = refused 14
+abbrev pub outcome_of : Result ℕ PrintError → PrintOutcome
+outcome_of (Ok count) = wrote count
+outcome_of (Err OutOfRange) = refused 10
+outcome_of (Err ShortText) = refused 14
 
 -- The counts of a table, and enough entries for them.
 pub record TableInRange (actions rows : ℕ) (entries : List ℕ) : Type 0 where
@@ -45,7 +45,6 @@ pub data PrintsRefusal (number spot : ℕ) (old : List ℕ) : PrintOutcome → L
       → PrintsRefusal number spot old answer new
 
 -- how many bytes an answer says were written
-abbrev pub count_of : Printed → ℕ
-count_of (Written count) = count
-count_of OutOfRange = 0
-count_of ShortText = 0
+abbrev pub count_of : Result ℕ PrintError → ℕ
+count_of (Ok count) = count
+count_of (Err e) = 0

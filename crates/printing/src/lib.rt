@@ -1,20 +1,17 @@
 // The text of a table and of a refusal: made in a scratch array, and given where it fits.
 #![tactic(auto)]
 
-ghost use Rattle.std.specs.Prelude.{◌≡◌, ◌*◌, ◌<◌, length, take};
+ghost use Rattle.std.specs.Prelude.{◌≡◌, [], ◌*◌, ◌<◌, length, take};
 ghost use Rattle.printed_lines.specs.Text.{table_text, refusal_text};
-ghost use Rattle.text_writer.specs.Writing.{Appends};
 ghost use Rattle.printing.specs.Printing.{outcome_of, TableInRange, GivesText, PrintsTable, PrintsRefusal, count_of};
 
 use printed_lines::{put_counts, put_mode, put_rows};
-use text_writer::put_word;
+use text_writer::Text;
 use trace::Mode;
 
-// What printing answers: how many bytes were written; or, with nothing written, that a value is out of its range, or that the text area is too
-// short. specs/Printing.antt gives the number of each refusal.
-#[derive(Clone, Copy)]
-pub enum Printed {
-    Written(usize),
+// Why nothing is written: a value is out of its range, or the text area is too short. specs/Printing.antt gives the number of each.
+#[derive(Clone, Copy, Debug, PartialEq, Eq)]
+pub enum PrintError {
     OutOfRange,
     ShortText,
 }
@@ -26,100 +23,70 @@ pub fn room() -> [u8; 4352]
     [0u8; 4352]
 }
 
-// Copies a text to the front of the area where it fits.
-fn give(written: &[u8], text: &mut [u8]) -> Printed
+// Copies a text to the front of the area where it fits, and answers how many bytes it has.
+fn give(written: &[u8], text: &mut [u8]) -> Result<usize, PrintError>
     ensures { GivesText written.now text.old (outcome_of result) text.new }
 {
     if text.len() < written.len() {
-        return Printed::ShortText;
+        return Err(PrintError::ShortText);
     }
-    base::copy(written, text);
-    Printed::Written(written.len())
+    text[..written.len()].copy_from_slice(written);
+    Ok(written.len())
 }
 
-fn put_table(mode: Mode, actions: usize, rows: usize, entries: &[u8], text: &mut [u8]) -> usize
-    requires table_in_range { TableInRange actions rows entries.now }
-    requires text_len { length text.old ≡ 4352 }
-    ensures { Appends text.old 0 (table_text mode actions rows entries.now) text.new result }
+fn table_text(mode: Mode, actions: usize, rows: usize, entries: &[u8]) -> Text<4352>
+    requires { TableInRange actions rows entries.now }
+    ensures { result ≡ table_text mode actions rows entries.now }
 {
-    let word = put_mode(mode, text, 0);
-    let line = put_counts(actions, rows, text, word);
-    put_rows(actions, rows, entries, text, line)
+    let mut made = Text::new();
+    put_mode(mode, &mut made);
+    put_counts(actions, rows, &mut made);
+    put_rows(actions, rows, entries, &mut made);
+    made
 }
 
-fn put_refusal(number: usize, spot: usize, text: &mut [u8]) -> usize
+fn refusal_text(number: usize, spot: usize) -> Text<4352>
     requires number_bound { number < 1000 }
     requires spot_bound { spot < 1000 }
-    requires text_len { length text.old ≡ 4352 }
-    ensures { Appends text.old 0 (refusal_text number spot) text.new result }
+    ensures { result ≡ refusal_text number spot }
 {
-    let word = put_word(b"refused", text, 0);
-    put_counts(number, spot, text, word)
+    let mut made = Text::new();
+    made.put_word(b"refused");
+    put_counts(number, spot, &mut made);
+    made
 }
 
-// Writes the text of a table to the front of `text`: 1 to 16 actions, 1 to 64 rows, and the rows' entries one behind the other.
+// Writes the text of a table to the front of `text`, and answers how many bytes it has: 1 to 16 actions, 1 to 64 rows, and the rows' entries one
+// behind the other.
 pub fn print_table(
     mode: Mode,
     actions: usize,
     rows: usize,
     entries: &[u8],
     text: &mut [u8],
-) -> Printed
+) -> Result<usize, PrintError>
     ensures { PrintsTable mode actions rows entries.now text.old (outcome_of result) text.new }
 {
-    if actions < 1 {
-        return Printed::OutOfRange;
+    if actions < 1 || 16 < actions || rows < 1 || 64 < rows || entries.len() < rows * actions {
+        return Err(PrintError::OutOfRange);
     }
-    if 16 < actions {
-        return Printed::OutOfRange;
-    }
-    if rows < 1 {
-        return Printed::OutOfRange;
-    }
-    if 64 < rows {
-        return Printed::OutOfRange;
-    }
-    if entries.len() < rows * actions {
-        return Printed::OutOfRange;
-    }
-    let mut made = room();
-    let end = put_table(mode, actions, rows, entries, &mut made);
-    give(&made[..end], text)
+    give(table_text(mode, actions, rows, entries).written(), text)
 }
 
-// Writes the text of a refusal to the front of `text`. Both numbers are below 1,000.
-pub fn print_refusal(number: usize, spot: usize, text: &mut [u8]) -> Printed
+// Writes the text of a refusal to the front of `text`, and answers how many bytes it has. Both numbers are below 1,000.
+pub fn print_refusal(number: usize, spot: usize, text: &mut [u8]) -> Result<usize, PrintError>
     ensures { PrintsRefusal number spot text.old (outcome_of result) text.new }
 {
-    if 999 < number {
-        return Printed::OutOfRange;
+    if 999 < number || 999 < spot {
+        return Err(PrintError::OutOfRange);
     }
-    if 999 < spot {
-        return Printed::OutOfRange;
-    }
-    let mut made = room();
-    let end = put_refusal(number, spot, &mut made);
-    give(&made[..end], text)
-}
-
-// How many bytes were written.
-fn count_of(printed: Printed) -> usize
-    ensures { result ≡ count_of printed }
-{
-    match printed {
-        Printed::Written(count) => count,
-        Printed::OutOfRange => 0,
-        Printed::ShortText => 0,
-    }
+    give(refusal_text(number, spot).written(), text)
 }
 
 // The text that was written, at the front of its area.
-pub fn written(printed: Printed, text: &[u8]) -> &[u8]
+pub fn written(printed: Result<usize, PrintError>, text: &[u8]) -> &[u8]
     ensures { result.now ≡ take (count_of printed) text.now }
 {
-    let count = count_of(printed);
-    if text.len() < count {
-        return text;
-    }
-    &text[..count]
+    let count = printed.unwrap_or(0);
+    &text[..count.min(text.len())]
 }

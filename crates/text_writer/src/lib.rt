@@ -1,8 +1,7 @@
-// Bytes and numbers written one after the other into an area. Each function answers the place after what it wrote.
+// A text written one piece after the other, in an array of its own. Clauses see the bytes that it has so far.
 #![tactic(auto)]
 
-mod bytes;
 mod numbers;
+mod text;
 
-pub use bytes::{put, put_word};
-pub use numbers::put_number;
+pub use text::Text;

@@ -1,38 +1,29 @@
 // Numbers below 1,000 in decimal, without leading zeros.
-ghost use Rattle.std.specs.Prelude.{◌≡◌, ◌+◌, ◌≤◌, ◌<◌, length};
+ghost use Rattle.std.specs.Prelude.{◌≡◌, ◌++◌, ◌+◌, ◌≤◌, ◌<◌, length};
 ghost use Rattle.text_writer.specs.Decimals.{decimal, digit as digit_of};
-ghost use Rattle.text_writer.specs.Writing.{Appends};
 
-use crate::bytes::put;
+use crate::text::Text;
 
-fn digit(value: usize) -> u8
-    requires { value < 10 }
-    ensures { result ≡ 48 + value }
-{
-    48 + value as u8
-}
-
-fn put_digit(value: usize, text: &mut [u8], at: usize) -> usize
-    requires value_bound { value < 10 }
-    requires at_in_bounds { at < length text.old }
-    ensures { Appends text.old at (digit_of value) text.new result }
-{
-    put(digit(value), text, at)
-}
-
-pub fn put_number(n: usize, text: &mut [u8], at: usize) -> usize
-    requires n_bound { n < 1000 }
-    requires at_in_bounds { at + 3 ≤ length text.old }
-    ensures { Appends text.old at (decimal n) text.new result }
-{
-    if n < 10 {
-        return put_digit(n, text, at);
+impl<const N: usize> Text<N> {
+    fn put_digit(&mut self, value: usize)
+        requires value_bound { value < 10 }
+        requires room { length self.old < N }
+        ensures { self.new ≡ self.old ++ digit_of value }
+    {
+        self.put(b'0' + value as u8);
     }
-    if n < 100 {
-        let ones = put_digit(n / 10, text, at);
-        return put_digit(n % 10, text, ones);
+
+    pub fn put_number(&mut self, n: usize)
+        requires n_bound { n < 1000 }
+        requires room { length self.old + 3 ≤ N }
+        ensures { self.new ≡ self.old ++ decimal n }
+    {
+        if 100 <= n {
+            self.put_digit(n / 100);
+        }
+        if 10 <= n {
+            self.put_digit(n / 10 % 10);
+        }
+        self.put_digit(n % 10);
     }
-    let tens = put_digit(n / 100, text, at);
-    let ones = put_digit(n / 10 % 10, text, tens);
-    put_digit(n % 10, text, ones)
 }
