@@ -1,30 +1,19 @@
 -- The words of a board's places, and their bytes one after the other.
 -- Assumes nothing.
 use mathlib.Core.Path.{◌≡◌, refl, ap₂}
-use mathlib.Core.List.{List, [], ◌∷◌, ◌++◌}
-use Prim.Native.Nat.{ℕ, zero, suc, ◌+◌, ◌*◌, ◌/◌, ◌%◌, ◌<◌}
+use mathlib.Core.List.{List, ◌++◌}
+use Prim.Native.Nat.{ℕ, zero, suc, ◌+◌, ◌<◌}
 use native.Mathlib.Decide.{ℕ_discrete}
-use native.Mathlib.Numerals.{add-one}
 use native.Mathlib.Omega.{arith}
 use lib.ListN.{length, get_or, set}
-use lib.Seq.{get_or-set_same, get_or-set_other, sets}
+use lib.Seq.{get_or-set_same, get_or-set_other}
 use Rattle.base.specs.Build.{joined}
 use Rattle.base.specs.Word.{word_bytes}
-use Rattle.base.proofs.Joined.{length-joined}
-use Rattle.base.proofs.Lists.{sets_then}
 use Rattle.places.specs.Layout.{place_count}
 use Rattle.places.specs.Places.{case_in, case_at}
 use Rattle.places.specs.declared.Place.{Place}
 use Rattle.places.specs.declared.Board.{Board}
-use Rattle.records.specs.Record.{place_record_length, place_record, WordsTo, record_of}
-
--- two bytes are those of their word
-pub word-of-bytes : (low high : ℕ) → low < 256 → high < 256 → word_bytes (low + 256 * high) ≡ low ∷ high ∷ []
-word-of-bytes low high h g =
-    let e : (low + 256 * high) % 256 ≡ low = omega arith in
-    let q : (low + 256 * high) / 256 ≡ high = omega arith in
-    let f : high % 256 ≡ high = omega arith in
-    rw (e, q, f)
+use Rattle.records.specs.Record.{place_record, WordsTo, record_of}
 
 -- one word more
 pub words_more : (places : List Place) (words : List ℕ) (n word : ℕ) → n < length words → WordsTo places n words
@@ -38,14 +27,6 @@ words_more places words n word long before e = λ i h. at i h (ℕ_discrete i n)
 -- the bytes of the first n words
 abbrev pub bytes_of : List ℕ → ℕ → List ℕ
 bytes_of words n = joined n (λ i. word_bytes (get_or words i 0))
-
--- a word stored after those before it
-pub bytes-more : (words l : List ℕ) (i : ℕ)
-    → sets (sets l 0 (bytes_of words i)) (place_record_length * i) (word_bytes (get_or words i 0)) ≡ sets l 0 (bytes_of words (i + 1))
-bytes-more words l i =
-    rw (add-one i)
-    (sets_then l 0 (bytes_of words i) (word_bytes (get_or words i 0)) (place_record_length * i)
-    (omega (arith, length-joined place_record_length (λ k. word_bytes (get_or words k 0)) (λ k. refl) i)))
 
 joined_same : (f g : ℕ → List ℕ) (n : ℕ) → ((i : ℕ) → i < n → f i ≡ g i) → joined n f ≡ joined n g
 joined_same f g zero same = refl

@@ -1,10 +1,10 @@
 // A board as a record of bytes, two a place: its case and its row.
-ghost use Rattle.std.specs.Prelude.{◌≡◌, ◌≤◌, ◌<◌, length};
+ghost use Rattle.std.specs.Prelude.{◌≡◌, ◌≤◌, length};
 ghost use Rattle.base.specs.Word.{word_bytes};
 ghost use Rattle.places.specs.Layout.{place_count};
 ghost use Rattle.records.specs.Record.{recorded_place, board_of, case_byte, row_byte, place_record, WordsTo, written, record_length};
 
-use base::{put_word, wide};
+use base::put_word;
 use places::{Board, Case, PLACES, Place, from_places};
 
 // The bytes of a place, and those of a record.
@@ -12,48 +12,29 @@ const PLACE: usize = 2;
 
 pub const RECORD: usize = PLACE * PLACES;
 
-// The place of a case byte up to 3 and a row byte.
-fn known_place(case: u8, row: u8) -> Place
-    requires { case < 4 }
-    ensures { result ≡ recorded_place case row }
-{
-    match case {
-        0 => Place { case: Case::Empty },
-        1 => Place {
-            case: Case::Enforced(row),
-        },
-        2 => Place {
-            case: Case::Watched(row),
-        },
-        _ => Place {
-            case: Case::Fulfilled,
-        },
-    }
-}
-
 // The place of two bytes. A case byte above 3 is read as an enforced rule at a row that no table has.
 fn place_of(case: u8, row: u8) -> Place
     ensures { result ≡ recorded_place case row }
 {
-    if case < 4 {
-        known_place(case, row)
-    } else {
-        Place {
-            case: Case::Enforced(255),
-        }
-    }
+    let case = match case {
+        0 => Case::Empty,
+        1 => Case::Enforced(row),
+        2 => Case::Watched(row),
+        3 => Case::Fulfilled,
+        _ => Case::Enforced(255),
+    };
+    Place { case }
 }
 
 // The board of a record.
+#[tactic(auto, unfolding(crate::specs::Record::board_of))]
 pub fn read_board(bytes: &[u8]) -> Board
     requires { record_length ≤ length bytes.now }
     ensures { result ≡ board_of bytes.now }
 {
     let mut places = [Place { case: Case::Empty }; PLACES];
-    let mut i = 0;
-    while i < PLACES {
+    for i in 0..PLACES {
         places[i] = place_of(bytes[PLACE * i], bytes[PLACE * i + 1]);
-        i += 1;
     }
     from_places(places)
 }
@@ -75,10 +56,8 @@ fn row_byte(case: Case) -> u8
     ensures { result ≡ row_byte case }
 {
     match case {
-        Case::Empty => 0,
-        Case::Enforced(row) => row,
-        Case::Watched(row) => row,
-        Case::Fulfilled => 0,
+        Case::Enforced(row) | Case::Watched(row) => row,
+        Case::Empty | Case::Fulfilled => 0,
     }
 }
 
@@ -86,9 +65,7 @@ fn row_byte(case: Case) -> u8
 fn place_word(case: Case) -> u16
     ensures { word_bytes result ≡ place_record case }
 {
-    let low = case_byte(case) as u16;
-    let high = row_byte(case) as u16;
-    low + 256 * high
+    u16::from_le_bytes([case_byte(case), row_byte(case)])
 }
 
 // These numbers of all places. They stand in an array before they are written, so that the compiler makes the record by vector instructions and stores
@@ -97,13 +74,9 @@ fn words_of(board: Board) -> [u16; PLACES]
     ensures { WordsTo board.places place_count result }
 {
     let places = board.places;
-    let mut words = [0u16; PLACES];
-    let mut i = 0;
-    while i < PLACES {
-        let place = places[i];
-        let case = place.case;
-        words[i] = place_word(case);
-        i += 1;
+    let mut words = [0; PLACES];
+    for i in 0..PLACES {
+        words[i] = place_word(places[i].case);
     }
     words
 }
@@ -114,9 +87,7 @@ pub fn write_board(bytes: &mut [u8], board: Board)
     ensures { bytes.new ≡ written board bytes.old }
 {
     let words = words_of(board);
-    let mut i = 0;
-    while i < PLACES {
-        put_word(bytes, PLACE * i, wide(words[i]));
-        i += 1;
+    for i in 0..PLACES {
+        put_word(bytes, PLACE * i, usize::from(words[i]));
     }
 }
