@@ -1,2 +1,2 @@
-pub mod ByLength
 pub mod Scanning
+pub mod Spelled

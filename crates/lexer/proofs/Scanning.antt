@@ -61,5 +61,5 @@ module _ {text : List ℕ} {from k : ℕ} (r : Run text from k) where
   pub ends-at-blank : k < length text → is_blank (get_or text k 0) ≡ true → EndsWord text from k
   ends-at-blank h e = run_ends (rw (drop-cons text k 0) e)
 
-  pub ends-with-text : length text ≤ k → EndsWord text from k
-  ends-with-text h = run_ends (rw (drop_of_length-le text h) tt)
+  pub ends-with-text : length text ≤ k → EndsWord text from (length text)
+  ends-with-text h = let e : k ≡ length text = omega arith in rw (← e) (run_ends (rw (drop_of_length-le text h) tt))

@@ -3,31 +3,25 @@ ghost use Rattle.std.specs.Prelude.{◌≡◌, ◌<◌, false, length, get_or};
 ghost use Rattle.grammar.specs.Words.{is_blank};
 ghost use Rattle.lexer.specs.Next.{PassesBlanks, EndsWord, NextWord};
 
-use crate::Next;
+use crate::Word;
 use crate::tokens::token_of;
 
 fn is_blank(byte: u8) -> bool
     ensures { result ≡ is_blank byte }
 {
-    if 32 < byte {
-        return false;
-    }
-    (byte == 32) | (byte == 10)
+    matches!(byte, b' ' | b'\n')
 }
 
 // The first position from `at` on that is no blank's.
 pub fn pass_blanks(text: &[u8], at: usize) -> usize
     ensures { PassesBlanks text.now at result }
 {
-    let mut k = at;
-    while k < text.len() {
-        if is_blank(text[k]) {
-            k += 1;
-        } else {
+    for k in at..text.len() {
+        if !is_blank(text[k]) {
             return k;
         }
     }
-    k
+    at.max(text.len())
 }
 
 // The position behind the word that begins at `from`.
@@ -35,25 +29,23 @@ pub fn word_end(text: &[u8], from: usize) -> usize
     requires { (from < length text.now) × (is_blank (get_or text.now from 0) ≡ false) }
     ensures { EndsWord text.now from result }
 {
-    let mut k = from + 1;
-    while k < text.len() {
+    for k in from + 1..text.len() {
         if is_blank(text[k]) {
             return k;
         }
-        k += 1;
     }
-    k
+    text.len()
 }
 
-// The next word from a position on.
-pub fn next_word(text: &[u8], at: usize) -> Next
+// The next word of a text from a position on.
+pub fn read_word(text: &[u8], at: usize) -> Option<Word>
     ensures { NextWord text.now at result }
 {
     let from = pass_blanks(text, at);
-    if from < text.len() {
-        let to = word_end(text, from);
-        Next::Word(token_of(&text[from..to]), to)
-    } else {
-        Next::Nothing
+    if text.len() <= from {
+        return None;
     }
+    let end = word_end(text, from);
+    let token = token_of(&text[from..end]);
+    Some(Word { token, end })
 }
