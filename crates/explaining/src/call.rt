@@ -7,9 +7,9 @@ ghost use Rattle.explaining.specs.Explains.{Explains};
 ghost use Rattle.explaining.specs.Calling.{answer_of, place_of, ExplainsInto};
 ghost use Rattle.explaining.specs.Reading.{FindsBy, Standing};
 
-use crate::Explained;
 use crate::reading::{all_actions, first_trip, lowest_tripped};
-use compiler::{NodesBuilt, build_sheet};
+use crate::{Denial, ExplainError};
+use compiler::build_sheet;
 use limits::{LARGEST, Limits, NUMBERS_LENGTH, WORK_LENGTH};
 use making::long_enough;
 use reached::reached_by_and;
@@ -18,7 +18,12 @@ use table::is_watched;
 use trace::Mode;
 
 // Finds the first denied action of a list and the node that is named for it, by the rows of the sheet's nodes.
-fn find_denial(mode: Mode, sheet: Sheet, list: &[u8], work: &[u8]) -> Explained
+fn find_denial(
+    mode: Mode,
+    sheet: Sheet,
+    list: &[u8],
+    work: &[u8],
+) -> Result<Option<Denial>, ExplainError>
     requires { Standing mode sheet work.now }
     ensures { FindsBy mode sheet list.now (answer_of result) (place_of result) }
 {
@@ -26,25 +31,25 @@ fn find_denial(mode: Mode, sheet: Sheet, list: &[u8], work: &[u8]) -> Explained
     let watched = is_watched(mode);
     let outside = !all_actions(list, actions);
     if watched {
-        return Explained::WatchedSheet;
+        return Err(ExplainError::WatchedSheet);
     }
     if outside {
-        return Explained::NoAction;
+        return Err(ExplainError::NoAction);
     }
     let count = sheet.count;
     let last = (count - 1) as u8;
     let place = first_trip(work, actions, last, list);
     if place == list.len() {
-        return Explained::NoDenial;
+        return Ok(None);
     }
     let nodes = sheet.nodes;
     let set = reached_by_and(nodes, count - 1);
     let end = place + 1;
     let node = lowest_tripped(work, actions, set, last, &list[..end]);
-    Explained::Denied {
+    Ok(Some(Denial {
         place,
-        node: node as usize,
-    }
+        node: usize::from(node),
+    }))
 }
 
 // Explains with any limits.
@@ -54,35 +59,21 @@ fn explain_with(
     work: &mut [u8],
     values: &mut [u64],
     limits: Limits,
-) -> Explained
+) -> Result<Option<Denial>, ExplainError>
     requires { Workable limits work.old values.old }
     ensures { Explains sheet.now list.now limits (answer_of result) (place_of result) }
 {
-    let standing = build_sheet(sheet, work, values, limits);
-    let built = standing.built;
-    match built {
-        NodesBuilt::Refused(refusal) => Explained::Refused(refusal),
-        NodesBuilt::Rows { mode, rows: _ } => {
-            let read = standing.sheet;
-            find_denial(mode, read, list, work)
-        }
-    }
+    let built = build_sheet(sheet, work, values, limits)?;
+    find_denial(built.mode, built.sheet, list, work)
 }
 
 // Writes the place of a denial.
-fn write_place(explained: Explained, out: &mut [u64])
+fn write_place(explained: Result<Option<Denial>, ExplainError>, out: &mut [u64])
     requires { 1 ≤ length out.old }
     ensures { out.new ≡ place_of explained ++ drop (length (place_of explained)) out.old }
 {
-    match explained {
-        Explained::NoDenial => {}
-        Explained::Denied { place, node: _ } => {
-            out[0] = place as u64;
-        }
-        Explained::ShortArea => {}
-        Explained::Refused(_) => {}
-        Explained::WatchedSheet => {}
-        Explained::NoAction => {}
+    if let Ok(Some(denial)) = explained {
+        out[0] = denial.place as u64;
     }
 }
 
@@ -93,7 +84,7 @@ fn explain_in(
     out: &mut [u64],
     work: &mut [u8],
     values: &mut [u64],
-) -> Explained
+) -> Result<Option<Denial>, ExplainError>
     requires in_bounds { 1 ≤ length out.old }
     requires work_len { length work.old ≡ work_length }
     requires values_len { length values.old ≡ numbers_length }
@@ -102,8 +93,8 @@ fn explain_in(
     ensures zeroed_2 { Zeroed values.old values.new }
 {
     let explained = explain_with(sheet, list, work, values, LARGEST);
-    base::fill(work, 0);
-    base::clear_numbers(values);
+    work.fill(0);
+    values.fill(0);
     write_place(explained, out);
     explained
 }
@@ -116,7 +107,7 @@ pub fn explain(
     out: &mut [u64],
     work: &mut [u8],
     values: &mut [u64],
-) -> Explained
+) -> Result<Option<Denial>, ExplainError>
     ensures { ExplainsInto sheet.now list.now out.old work.old values.old (answer_of result) out.new work.new values.new }
 {
     if long_enough(1, out.len(), work.len(), values.len()) {
@@ -128,5 +119,5 @@ pub fn explain(
             &mut values[..NUMBERS_LENGTH],
         );
     }
-    Explained::ShortArea
+    Err(ExplainError::ShortArea)
 }

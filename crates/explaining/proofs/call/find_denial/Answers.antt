@@ -114,9 +114,10 @@ pub returns : goal.returns
 returns c =
     let r = (goal.at.returns c).After-reached_by_and-set in
     let z = start (own r) in
-    found (own r) (denied (place r) c.lowest_tripped-node.result)
+    rw c.from.ensures
+    (found (own r) (denied (place r) c.lowest_tripped-node.result)
     (first-denied (sequence (all r)) (place r) _ (first r)
     (lowest-violated (stands (own r)) (front r) (fronts r) (first r).denied
     (subst (λ (set : ℕ). LowestTrips z.args.work.now set (policy_node z.args.sheet) z.args.sheet.actions (front r) c.lowest_tripped-node.result) r.reached_by_and-set.ensures
     (subst (λ (k : ℕ). LowestTrips z.args.work.now r.reached_by_and-set.result (policy_node z.args.sheet) z.args.sheet.actions (take k (list (own r))) c.lowest_tripped-node.result)
-    (add-one (place r)) c.lowest_tripped-node.ensures))))
+    (add-one (place r)) c.lowest_tripped-node.ensures)))))
