@@ -1,73 +1,77 @@
--- What a scan for a mark knows of the field that it goes along, and of those after it.
+-- The fields are the parts that the library's `split` gives, and the field from a position on ends where a search finds the mark.
 -- Assumes nothing.
-use mathlib.Core.Path.{◌≡◌, refl, sym, ◌∙◌}
-use mathlib.Core.List.{List, [], ◌∷◌}
-use Prim.Native.Nat.{ℕ, zero, suc, ◌+◌, ◌-◌, ◌≤◌, ◌<◌}
+use Rattle.std.proofs.Common.{◌≡◌, refl, sym, ap, ◌∙◌, ℕ, zero, suc, ◌+◌, ◌-◌, ◌≤◌, ◌<◌, Bool, true, false, not, List, [], ◌∷◌, length, get_or, take, drop, eqb, arith, length-drop, Some, None}
+use Rattle.std.proofs.lemmas.Grind.{common_steps}
+use Rattle.std.specs.List.{All, onto_first, slice_split, position, position_or_len}
+use Rattle.std.proofs.lemmas.List.{take_all, drop-drop}
+use Rattle.std.proofs.lemmas.List.Elements.{All-from_get_or}
+use Rattle.std.proofs.lemmas.List.Splits.{slice_split_first, slice_split_none, length-slice_split}
+use Rattle.std.proofs.lemmas.List.Sums.{prefix_len-le-length, prefix_len_passes}
+use Rattle.std.specs.List.{count_by}
 use native.Mathlib.Decide.{ℕ_discrete}
-use native.Mathlib.Numerals.{add-one}
-use native.Mathlib.Omega.{arith}
-use borrow.Author.Tests.{eq-eqb, ne_eqb}
-use lib.ListN.{length, get_or, take, drop, drop_of_length-le}
-use lib.Seq.{drop-cons, take-nil}
+use lib.Seq.{take-nil}
 use Rattle.fields.specs.Fields.{lengthen_first, split_by, fields_from, between, EndsField}
 
--- the fields of bytes that begin with a mark, or with another byte
-pub mark-ahead : (mark byte : ℕ) (rest : List ℕ) → byte ≡ mark → split_by mark (byte ∷ rest) ≡ [] ∷ split_by mark rest
+abbrev pub is_mark : ℕ → ℕ → Bool
+is_mark mark byte = eqb byte mark
+
+longer_first : (byte : ℕ) (fields : List (List ℕ)) → lengthen_first byte fields ≡ onto_first byte fields
+longer_first byte [] = refl
+longer_first byte (field ∷ fields) = refl
+
+pub as_split : (mark : ℕ) (bytes : List ℕ) → split_by mark bytes ≡ slice_split (is_mark mark) bytes
 unfolding split_by
-mark-ahead mark byte rest e = rw (eq-eqb byte mark e)
+as_split mark [] = refl
+as_split mark (byte ∷ rest) = simp (as_split mark rest, longer_first)
 
-pub byte-ahead : (mark byte : ℕ) (rest : List ℕ) → (byte ≡ mark → ⊥) → split_by mark (byte ∷ rest) ≡ lengthen_first byte (split_by mark rest)
-unfolding split_by
-byte-ahead mark byte rest n = rw (ne_eqb byte mark n)
+pub fields-counted : (mark : ℕ) (bytes : List ℕ) → length (split_by mark bytes) ≡ count_by (is_mark mark) bytes + 1
+fields-counted mark bytes = ap length (as_split mark bytes) ∙ length-slice_split (is_mark mark) bytes
 
-pub no_bytes : (mark : ℕ) → split_by mark [] ≡ [] ∷ []
-unfolding split_by
-no_bytes mark = refl
+not-true : (a : Bool) → not a ≡ true → a ≡ false
+not-true true e = cc
+not-true false e = refl
 
--- A field that ends where it begins.
-module _ (mark : ℕ) (bytes : List ℕ) (from : ℕ) where
-  pub none_between : between bytes from from ≡ []
-  none_between = let z : from - from ≡ 0 = omega arith in rw z
+pub ends-where_found : (mark : ℕ) (bytes : List ℕ) (from to : ℕ) → from ≤ length bytes → to ≡ from + position_or_len (is_mark mark) (drop from bytes) → EndsField mark bytes from to
+ends-where_found mark bytes from to h e =
+    let rest : List ℕ = drop from bytes in
+    let n : ℕ = position_or_len (is_mark mark) rest in
+    let long : length rest ≡ length bytes - from = length-drop from bytes in
+    let inside : n ≤ length rest = prefix_len-le-length (λ b. not (eqb b mark)) rest in
+    let far : to - from ≡ n = omega arith in
+    let behind : drop (n + 1) rest ≡ drop (to + 1) bytes = drop-drop (n + 1) from bytes ∙ ap (λ (k : ℕ). drop k bytes) (omega arith) in
+    record {
+      onward = omega arith;
+      within = omega arith;
+      more = λ l.
+          let found : n < length rest = omega arith in
+          as_split mark rest
+          ∙ slice_split_first (is_mark mark) rest 0 found
+          ∙ rw (far, behind) (ap (λ (fields : List (List ℕ)). take n rest ∷ fields) (sym (as_split mark (drop (to + 1) bytes))));
+      last = λ l.
+          let none : All (λ b. eqb b mark ≡ false) rest = All-from_get_or (λ b. eqb b mark ≡ false) rest 0 (λ i k. not-true (eqb (get_or rest i 0) mark) (prefix_len_passes (λ b. not (eqb b mark)) rest i 0 (omega arith))) in
+          as_split mark rest
+          ∙ slice_split_none (is_mark mark) rest none
+          ∙ rw (far) (ap (λ (field : List ℕ). field ∷ []) (sym (take_all n rest (omega arith))));
+    }
 
-  pub ends-at-mark : from < length bytes → get_or bytes from 0 ≡ mark → EndsField mark bytes from from
-  ends-at-mark h e =
-      record {
-        onward = omega arith;
-        within = omega arith;
-        more = λ l. rw (none_between, drop-cons bytes from 0 h, add-one) (mark-ahead mark (get_or bytes from 0) (drop (suc from) bytes) e);
-        last = λ l. absurd (omega arith);
-      }
+-- the same of what the library's `position` finds
+pub ends_at : (mark : ℕ) (bytes : List ℕ) (from k : ℕ) → from ≤ length bytes → position (is_mark mark) (drop from bytes) ≡ Some k → EndsField mark bytes from (from + k)
+ends_at mark bytes from k h e =
+    let n : position_or_len (is_mark mark) (drop from bytes) ≡ k = grind (arith, common_steps) in
+    ends-where_found mark bytes from (from + k) h (ap (λ (n : ℕ). from + n) (sym n))
 
-  pub ends-with-bytes : from ≡ length bytes → EndsField mark bytes from from
-  ends-with-bytes e =
-      let all : length bytes ≤ from = omega arith in
-      record {
-        onward = omega arith;
-        within = omega arith;
-        more = λ l. absurd (omega arith);
-        last = λ l. rw (none_between, drop_of_length-le bytes all) (no_bytes mark);
-      }
+pub ends_with_bytes : (mark : ℕ) (bytes : List ℕ) (from : ℕ) → from ≤ length bytes → position (is_mark mark) (drop from bytes) ≡ None → EndsField mark bytes from (length bytes)
+ends_with_bytes mark bytes from h e =
+    let rest : List ℕ = drop from bytes in
+    let inside : position_or_len (is_mark mark) rest ≤ length rest = prefix_len-le-length (λ b. not (eqb b mark)) rest in
+    let n : length rest ≤ position_or_len (is_mark mark) rest = grind (arith, common_steps) in
+    ends-where_found mark bytes from (length bytes) h (omega (arith, length-drop from bytes))
 
--- A byte more at its front.
-between_cons : (bytes : List ℕ) (from to : ℕ) → from < to → from < length bytes → between bytes from to ≡ get_or bytes from 0 ∷ between bytes (from + 1) to
-between_cons bytes from to h l =
-    let n : to - from ≡ suc (to - (from + 1)) = omega arith in
-    rw (n, drop-cons bytes from 0 l, add-one)
+-- the first field from a position on
+pub first_field : {mark : ℕ} {bytes : List ℕ} {from to : ℕ} → EndsField mark bytes from to → get_or (fields_from mark bytes from) 0 [] ≡ between bytes from to
+first_field {mark} {bytes} {from} {to} e = elim (ℕ_discrete to (length bytes)) [ yes p ↦ rw (e.last p) | no q ↦ rw (e.more (omega arith)) ]
 
-module _ {mark : ℕ} {bytes : List ℕ} {from to : ℕ} (e : EndsField mark bytes (from + 1) to) where
-  pub ends-longer : from < length bytes → (get_or bytes from 0 ≡ mark → ⊥) → EndsField mark bytes from to
-  ends-longer h n =
-      let far : from < to = omega (arith, e.onward) in
-      let ahead : fields_from mark bytes from ≡ lengthen_first (get_or bytes from 0) (fields_from mark bytes (from + 1)) =
-      rw (drop-cons bytes from 0 h, add-one) (byte-ahead mark (get_or bytes from 0) (drop (suc from) bytes) n) in
-      record {
-        onward = omega arith;
-        within = e.within;
-        more = λ l. ahead ∙ rw (e.more l, between_cons bytes from to far h);
-        last = λ l. ahead ∙ rw (e.last l, between_cons bytes from to far h);
-      }
-
--- The fields by their numbers, from a position on whose field ends there.
+-- the fields by their numbers, from a position on whose field ends there
 tail_at : (field : List ℕ) (fields : List (List ℕ)) (n : ℕ) → 0 < n → get_or (field ∷ fields) n [] ≡ get_or fields (n - 1) []
 tail_at field fields zero h = absurd (omega arith)
 tail_at field fields (suc n) h = let e : suc n - 1 ≡ n = omega arith in rw e
@@ -77,20 +81,15 @@ nothing-at zero = refl
 nothing-at (suc n) = refl
 
 module _ {mark : ℕ} {bytes : List ℕ} {from to : ℕ} (e : EndsField mark bytes from to) where
-  pub first_field : get_or (fields_from mark bytes from) 0 [] ≡ between bytes from to
-  first_field = elim (ℕ_discrete to (length bytes)) [ yes p ↦ rw (e.last p) | no q ↦ rw (e.more (omega arith)) ]
-
   pub next_field : to < length bytes → (n : ℕ) → 0 < n → get_or (fields_from mark bytes from) n [] ≡ get_or (fields_from mark bytes (to + 1)) (n - 1) []
   next_field h n l = rw (e.more h) (tail_at (between bytes from to) (fields_from mark bytes (to + 1)) n l)
 
   pub no_field : to ≡ length bytes → (n : ℕ) → 0 < n → get_or (fields_from mark bytes from) n [] ≡ []
   no_field p n l = rw (e.last p) (tail_at (between bytes from to) [] n l ∙ nothing-at (n - 1))
 
-  pub fields-more : to < length bytes → length (fields_from mark bytes from) ≡ suc (length (fields_from mark bytes (to + 1)))
-  fields-more h = rw (e.more h)
-
-  pub fields-last : to ≡ length bytes → length (fields_from mark bytes from) ≡ 1
-  fields-last p = rw (e.last p)
+-- nothing stands between a position and itself
+pub none_between : (mark : ℕ) (bytes : List ℕ) (from : ℕ) → between bytes from from ≡ []
+none_between mark bytes from = let z : from - from ≡ 0 = omega arith in rw z
 
 -- what stands between two positions is what is left of the first bytes
 pub between-front : (bytes : List ℕ) (from to : ℕ) → drop from (take to bytes) ≡ between bytes from to

@@ -6,7 +6,7 @@ ghost use Rattle.fields.specs.Fields.{split_by};
 ghost use Rattle.messages.specs.Adding.{Adds};
 ghost use Rattle.messages.specs.Message.{filled};
 
-use fields::field_at;
+use fields::field;
 use messages::fill;
 
 // Adds the message of this number, from 0, with its holes filled; nothing where there is none.
@@ -21,8 +21,6 @@ pub fn fill_listed(
 ) -> usize
     ensures { Adds text.old at (filled (get_or (split_by 124 messages.now) number []) first second word.now) text.new result }
 {
-    let span = field_at(messages, b'|', number);
-    let from = span.from;
-    let to = span.to;
-    fill(&messages[from..to], first, second, word, text, at)
+    let message = field(messages, b'|', number);
+    fill(message, first, second, word, text, at)
 }

@@ -13,29 +13,26 @@ pub fn word_at(text: &[u8], number: usize) -> Span
     ensures { WordAt text.now number result.from result.to }
 {
     let mut at = 0;
-    let mut left = number;
-    while 0 < left {
+    for passed in 0..number {
         let from = pass_blanks(text, at);
         if text.len() <= from {
             return Span { from: at, to: at };
         }
         at = word_end(text, from);
-        left -= 1;
     }
     let from = pass_blanks(text, at);
     if text.len() <= from {
         return Span { from: at, to: at };
     }
-    let to = word_end(text, from);
-    Span { from, to }
+    Span {
+        from,
+        to: word_end(text, from),
+    }
 }
 
 // The bytes of that word: none where there is no such word.
 pub fn word_of(text: &[u8], number: usize) -> &[u8]
     ensures { result.now ≡ get_or (words_of text.now) number [] }
 {
-    let word = word_at(text, number);
-    let from = word.from;
-    let to = word.to;
-    &text[from..to]
+    word_at(text, number).of(text)
 }

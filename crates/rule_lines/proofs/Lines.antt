@@ -1,16 +1,17 @@
 -- Laws of the lines of a rule: where it stops, goes on and ends.
 -- Assumes nothing.
-use mathlib.Core.Path.{◌≡◌, refl, sym, ◌∙◌}
+use mathlib.Core.Path.{◌≡◌, refl}
 use mathlib.Core.Bool.{Bool, true, false, cond}
 use mathlib.Core.List.{List, [], ◌∷◌}
-use Prim.Native.Nat.{ℕ, suc, ◌+◌, ◌-◌, ◌≤◌, ◌<◌}
+use Prim.Native.Nat.{ℕ, ◌+◌, ◌-◌, ◌≤◌, ◌<◌}
 use native.Mathlib.Decide.{ℕ_discrete}
 use native.Mathlib.Omega.{arith}
-use borrow.Author.Tests.{eq-eqb, ne_eqb}
 use lib.Dec.{eqb}
-use lib.ListN.{length, get_or, drop, length-take, length-drop}
+use lib.ListN.{length, drop, length-take, length-drop}
+use Rattle.std.specs.Cmp.Lexicographic.{pointwise}
+use Rattle.grammar.specs.Spelling.{same}
 use Rattle.fields.specs.Fields.{lengthen_first, split_by, fields_from, between, EndsField}
-use Rattle.rule_lines.specs.RuleFiles.{no_word, is_separator, newline_before, rule_length}
+use Rattle.rule_lines.specs.RuleFiles.{is_separator, newline_before, rule_length}
 
 -- there is always a line
 long-first : (byte : ℕ) (lines : List (List ℕ)) → newline_before (lengthen_first byte lines) ≡ 1
@@ -58,22 +59,9 @@ module _ {file : List ℕ} {k end : ℕ} (e : EndsField 10 file k end) where
       let here : rule_length (fields_from 10 file k) ≡ length (between file k end) + (newline_before [] + rule_length []) = rw (e.last p) (goes [] f) in
       omega (arith, here, line-length file k end e.onward e.within, none_left, e.onward)
 
--- a part is empty exactly when it ends where it begins
-empty-part : (part : List ℕ) → eqb (length part) 0 ≡ no_word part
-empty-part [] = refl
-empty-part (byte ∷ rest) = ne_eqb (suc (length rest)) 0 (λ e. omega arith)
-
-pub none-there : (text : List ℕ) (from to : ℕ) → from ≤ to → to ≤ length text → eqb from to ≡ no_word (between text from to)
-none-there text from to h l =
-    elim (ℕ_discrete from to) [ yes p ↦ eq-eqb from to p ∙ sym (eq-eqb (length (between text from to)) 0 (omega (arith, line-length text from to h l))) ∙ empty-part (between text from to) | no q ↦ ne_eqb from to q ∙ sym (ne_eqb (length (between text from to)) 0 (λ e. q (omega (arith, line-length text from to h l)))) ∙ empty-part (between text from to) ]
-
--- the second byte, and that there is none
-pub no_second : (bytes : List ℕ) → length bytes < 2 → get_or bytes 1 1 ≡ 1
-no_second [] h = refl
-no_second (x ∷ []) h = refl
-no_second (x ∷ y ∷ bytes) h = absurd (omega arith)
-
-pub second : (bytes : List ℕ) → 2 ≤ length bytes → get_or bytes 1 0 ≡ get_or bytes 1 1
-second [] h = absurd (omega arith)
-second (x ∷ []) h = absurd (omega arith)
-second (x ∷ y ∷ bytes) h = refl
+-- two words are the same where their bytes are
+pub same_bytes : (v w : List ℕ) → pointwise eqb v w ≡ same v w
+same_bytes [] [] = refl
+same_bytes [] (b ∷ w) = refl
+same_bytes (a ∷ v) [] = refl
+same_bytes (a ∷ v) (b ∷ w) = rw (same_bytes v w)

@@ -6,28 +6,21 @@ ghost use Rattle.fields.specs.Fields.{split_by};
 ghost use Rattle.rule_lines.specs.RuleFiles.{is_separator, RuleEnds, NextLine, Trims};
 
 use fields::{find, front, marks_in};
-use lexer::same;
-use positions::word_at;
+use positions::word_of;
 
 // Whether bytes are those of a sheet: the second one is 0, as the upper byte of the number of actions is. No text has such a byte.
 pub fn is_sheet(bytes: &[u8]) -> bool
     ensures { result ≡ eqb (get_or bytes.now 1 1) 0 }
 {
-    if bytes.len() < 2 {
-        return false;
-    }
-    bytes[1] == 0
+    bytes.len() > 1 && bytes[1] == 0
 }
 
 // Whether a line separates two rules.
+#[tactic(auto, using(crate::proofs::Lines::same_bytes), unfolding(crate::specs::RuleFiles::is_separator))]
 fn separates(line: &[u8]) -> bool
     ensures { result ≡ is_separator line.now }
 {
-    let first = word_at(line, 0);
-    let from = first.from;
-    let to = first.to;
-    let next = word_at(line, 1);
-    same(&line[from..to], b"---") & (next.from == next.to)
+    word_of(line, 0) == b"---".as_slice() && word_of(line, 1).is_empty()
 }
 
 // Where the rule ends that begins here: at a line that separates it from the next one, or with the file.
@@ -37,7 +30,7 @@ pub fn rule_end(file: &[u8], from: usize) -> usize
 {
     let mut k = from;
     loop {
-        let end = find(file, k, 10);
+        let end = find(file, k, b'\n');
         if separates(&file[k..end]) {
             return k;
         }
@@ -53,29 +46,26 @@ pub fn next_line(file: &[u8], at: usize) -> usize
     requires { at ≤ length file.now }
     ensures { NextLine file.now at result }
 {
-    let end = find(file, at, 10);
-    if end < file.len() { end + 1 } else { end }
+    let end = find(file, at, b'\n');
+    (end + 1).min(file.len())
 }
 
 // The line of a position, from 1; the last that is told is 999,999.
 pub fn line_of(file: &[u8], at: usize) -> usize
     ensures { result ≡ min (length (split_by 10 (take at file.now))) 999999 }
 {
-    let before = marks_in(front(file, at), 10);
-    if before < 999998 { before + 1 } else { 999999 }
+    let before = marks_in(front(file, at), b'\n');
+    before.min(999998) + 1
 }
 
 // The end of the last word of a text, or its beginning.
 pub fn trimmed(text: &[u8]) -> usize
     ensures { Trims text.now result }
 {
-    let mut k = text.len();
-    while 0 < k {
-        if (text[k - 1] == 32) | (text[k - 1] == 10) {
-            k -= 1;
-        } else {
-            return k;
+    for k in (0..text.len()).rev() {
+        if text[k] != b' ' && text[k] != b'\n' {
+            return k + 1;
         }
     }
-    k
+    0
 }

@@ -1,23 +1,16 @@
--- The goals of `fields::find` that the check leaves.
-use native.Mathlib.Omega.{arith}
-use borrow.Author.Rules.{rules}
-use Rattle.fields.proofs.Fielding.{ends-at-mark, ends-with-bytes, ends-longer}
+-- `fields::find` meets its contract: the search gives the place of the mark, counted from `from`.
+use Rattle.std.proofs.Common.{◌≡◌, drop, Some, None, arith}
+use Rattle.std.proofs.lemmas.Grind.{common_steps}
+use Rattle.std.specs.List.{position}
+use Rattle.fields.proofs.Fielding.{is_mark, ends_at, ends_with_bytes}
 use Rattle.fields.proofs.find.Goals as goal
 
-pub returns-then-bytes-k : goal.returns-then-bytes-k
-returns-then-bytes-k c =
-    let l = c.loop-k in
-    l.invariant.1 l.k (ends-at-mark _ _ _ (omega arith) (search rules))
+pub returns-in-Some : goal.returns-in-Some
+returns-in-Some c =
+    let e : position (is_mark c.args.mark) (drop c.args.from c.args.bytes.now) ≡ Some c.in-Some.before = grind (arith, common_steps) in
+    ends_at _ _ _ _ c.requires e
 
-pub loop-k-preserved : goal.loop-k-preserved
-loop-k-preserved c =
-    let l = c.loop-k in
-    (search rules, λ to e. l.invariant.1 to (ends-longer e (omega arith) (search rules)))
-
-pub returns : goal.returns
-returns c =
-    let l = c.loop-k in
-    l.invariant.1 l.k (ends-with-bytes _ _ _ (omega arith))
-
-pub loop-k-init : goal.loop-k-init
-loop-k-init c = (search rules, λ to e. e)
+pub returns-in-None : goal.returns-in-None
+returns-in-None c =
+    let e : position (is_mark c.args.mark) (drop c.args.from c.args.bytes.now) ≡ None = grind (arith, common_steps) in
+    ends_with_bytes _ _ _ c.requires e
