@@ -5,4 +5,4 @@ mod pass;
 mod survey;
 
 pub use pass::{Scanned, scan};
-pub use survey::{Found, admits, impossible};
+pub use survey::admits;

@@ -1,17 +1,18 @@
-// One pass over the places: check 25, each rule's next case under an action, and the places that deny it or that it fulfils.
+// One pass over the places: check 25, each rule's next case under an action, and the places that deny it and that it fulfils.
 ghost use Rattle.std.specs.Prelude.{◌≡◌, cond, ◌<◌, ◌^◌};
 ghost use Rattle.places.specs.Layout.{place_count, LongEnough};
 ghost use Rattle.view.specs.View.{view_of};
-ghost use Rattle.scan.specs.Scans.{Scans};
+ghost use Rattle.scan.specs.Scans.{ScanGives};
 
-use crate::survey::{Found, join, see};
+use crate::survey::{admits, see};
 use place_steps::step;
 use places::{Board, Case, PLACES, Place, taken};
 
-// What the pass gives: what is known of the board, the places in their next cases, and the two sets of places, as bits.
+// What the pass gives of a board that can be: over how many actions its rules are (none: no rule is on), the places in their next cases, and the two
+// sets of places, as bits.
 #[derive(Clone, Copy)]
 pub struct Scanned {
-    pub found: Found,
+    pub actions: Option<usize>,
     pub places: [Place; PLACES],
     pub denying: u8,
     pub fulfilled: u8,
@@ -25,36 +26,34 @@ fn bit(on: bool, place: usize) -> u8
     if on { 1u8 << place } else { 0 }
 }
 
-// All places, from the lowest.
-pub fn scan(board: Board, area: &[u8], action: usize) -> Scanned
+// All places, from the lowest; none: the board cannot be.
+pub fn scan(board: Board, area: &[u8], action: usize) -> Option<Scanned>
     requires { LongEnough area.now }
-    ensures { Scans place_count (view_of board area.now) action result.found result.places result.denying result.fulfilled }
+    ensures { ScanGives (view_of board area.now) action result }
 {
-    let mut found = Found::Vacant;
+    let mut actions = None;
     let mut places = [Place { case: Case::Empty }; PLACES];
     let mut denying = 0u8;
     let mut fulfilled = 0u8;
     let old = board.places;
-    let mut i = 0;
-    while i < PLACES {
-        let place = old[i];
-        let case = place.case;
+    for i in 0..PLACES {
+        let case = old[i].case;
         if taken(case) {
-            let read = see(case, area, i, action);
-            let seen = read.seen;
+            let read = see(case, area, i, action)?;
+            if !admits(actions, read.actions) {
+                return None;
+            }
             let stepped = step(case, read.entry);
-            let moved = stepped.0;
-            found = join(found, seen);
-            places[i] = Place { case: moved };
-            denying = denying + bit(stepped.1, i);
-            fulfilled = fulfilled + bit(stepped.2, i);
+            actions = Some(read.actions);
+            places[i] = Place { case: stepped.next };
+            denying += bit(stepped.denies, i);
+            fulfilled += bit(stepped.fulfilled, i);
         }
-        i += 1;
     }
-    Scanned {
-        found,
+    Some(Scanned {
+        actions,
         places,
         denying,
         fulfilled,
-    }
+    })
 }
