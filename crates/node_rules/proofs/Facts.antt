@@ -4,6 +4,7 @@ use mathlib.Core.Path.{◌≡◌, refl}
 use mathlib.Core.List.{List}
 use Prim.Native.Nat.{ℕ, ◌<◌}
 use native.Mathlib.Omega.{arith}
+use Rattle.std.specs.Prelude.{Option, Some}
 use Rattle.trace.specs.declared.Mode.{Mode}
 use Rattle.policy.specs.declared.Bound.{Bound}
 use Rattle.policy.specs.declared.Typing.TheVariants.{Typed}
@@ -22,9 +23,7 @@ use Rattle.typing.proofs.Meanings.{policy-of}
 use Rattle.syntax.proofs.NodeTypes.{PolicyBefore}
 use Rattle.rules.specs.Codes.{CountInRange}
 use Rattle.rules.specs.Rules.{rule_over, rule_at, EarlierRule}
-use Rattle.rules.specs.declared.Lowered.TheVariants.{AsRule}
 use Rattle.rules.specs.declared.NodeRule.{NodeRule}
-use Rattle.rules.specs.declared.RuleAt.{RuleAt}
 use Rattle.node_rules.specs.Nodes.{node_rule}
 use Rattle.node_rules.specs.Lowering.{SameRule, opens, filters, equal}
 use Rattle.node_rules.specs.SheetRules.{sheet_rules}
@@ -58,7 +57,7 @@ same_count (filters h g e p) c = tt
 same_count (equal r) c = c
 
 module _ {mode : Mode} (sheet : Sheet) (types : List TypedNode) (sound : SoundSheet mode sheet types) where
-  abbrev rules : List RuleAt
+  abbrev rules : List (Option NodeRule)
   rules = sheet_rules sheet types
 
   module _ (n : ℕ) (below : n < sheet.count) where
@@ -73,10 +72,10 @@ module _ {mode : Mode} (sheet : Sheet) (types : List TypedNode) (sound : SoundSh
         }
 
     -- a policy has a rule
-    pub policy-rule : {m : Mode} {k : Bound} → type_at types n ≡ Policy m k → (code : NodeRule) × (rule_at (sheet_rules sheet types) n ≡ AsRule code)
+    pub policy-rule : {m : Mode} {k : Bound} → type_at types n ≡ Policy m k → (code : NodeRule) × (rule_at (sheet_rules sheet types) n ≡ Some code)
     policy-rule e = let r = policy-right sheet (λ i. Unit {0}) types sound n below (λ i p. tt) e in (r.code, r.is)
 
-  pub rule-facts : (n : ℕ) → n < sheet.count → (code : NodeRule) → rule_at (sheet_rules sheet types) n ≡ AsRule code → RuleFacts sheet types n code
+  pub rule-facts : (n : ℕ) → n < sheet.count → (code : NodeRule) → rule_at (sheet_rules sheet types) n ≡ Some code → RuleFacts sheet types n code
   rule-facts n below code e = by (type_at types n) refl
     where
       earlier : (i : ℕ) → PolicyBefore (type_at types) n i → EarlierRule rules n i

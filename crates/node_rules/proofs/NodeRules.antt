@@ -6,6 +6,7 @@ use mathlib.Core.List.{List}
 use Prim.Native.Nat.{ℕ, ◌≤◌, ◌<◌}
 use native.Mathlib.Omega.{arith}
 use lib.ListN.{get_or}
+use Rattle.std.specs.Prelude.{Option, Some, None}
 use Rattle.base.specs.Sets.{bit, others_below}
 use Rattle.base.proofs.Filled.{filled_at}
 use Rattle.base.proofs.Sets.{in-set, set-others}
@@ -36,11 +37,8 @@ use Rattle.typing.proofs.Sound.{typed-policy, typed-fits}
 use Rattle.syntax.proofs.NodeTypes.{EachPart, FormulaBefore, PolicyBefore, unfit}
 use Rattle.rules.specs.Codes.{CountInRange}
 use Rattle.rules.specs.Rules.{rule_over, rule_at}
-use Rattle.rules.specs.declared.Lowered.{Lowered}
-use Rattle.rules.specs.declared.Lowered.TheVariants.{AsRule, NoRule}
 use Rattle.rules.specs.declared.NodeRule.{NodeRule}
 use Rattle.rules.specs.declared.NodeRule.TheVariants as coded
-use Rattle.rules.specs.declared.RuleAt.{RuleAt}
 use Rattle.node_rules.specs.Nodes.{satisfied_by, rule_by, node_rule}
 use Rattle.node_rules.specs.FormulaSets.{satisfying, sets_of}
 use Rattle.node_rules.specs.Lowering.{SameRule, opens, filters, equal, by_mode, lowered, of_policy, set_at}
@@ -52,9 +50,8 @@ module _ (sheet : Sheet) (types : List TypedNode) (few : sheet.count ≤ 64) (n 
   pub rule-typed : {t : NodeType} → type_at types n ≡ t
       → rule_at (sheet_rules sheet types) n ≡ of_policy t (λ m. lowered m sheet.actions (set_at (sets_of sheet types)) (node_of sheet n))
   rule-typed e =
-      ap (λ (r : RuleAt). r.of)
-      (filled_at 64 (record { of = NoRule })
-      (λ i rules. record { of = of_policy (type_at types i) (λ m. lowered m sheet.actions (set_at (sets_of sheet types)) (node_of sheet i)) }) sheet.count n below few)
+      filled_at 64 None
+      (λ i rules. of_policy (type_at types i) (λ m. lowered m sheet.actions (set_at (sets_of sheet types)) (node_of sheet i))) sheet.count n below few
       ∙ ap (λ (t : NodeType). of_policy t (λ m. lowered m sheet.actions (set_at (sets_of sheet types)) (node_of sheet n))) e
 
 -- And and Or have the mode of their parts
@@ -75,27 +72,27 @@ alike-mode Enforced Enforced m i j k e = cc
 module _ (sheet : Sheet) (Q : ℕ → Type 0) where
   -- A rule over node numbers is that of a policy over its parts, and the code has one that says the same. Q holds of its parts, and its count
   -- is in range.
-  pub record RightRule (rule : Rule ℕ) (means : Rule APolicy) (to : Lowered) : Type 0 where
+  pub record RightRule (rule : Rule ℕ) (means : Rule APolicy) (to : Option NodeRule) : Type 0 where
     pub code : NodeRule
-    pub is : to ≡ AsRule code
+    pub is : to ≡ Some code
     pub over : on_parts (node_policy sheet) rule ≡ means
     pub same : SameRule sheet.actions rule (rule_over code)
     pub parts : AllParts Q (rule_over code)
     pub count : CountInRange (rule_over code)
 
   -- what a node of this meaning is lowered to
-  abbrev LoweredFor : Meaning → Rule ℕ → Lowered → Type 0
-  LoweredFor (formula f) rule to = to ≡ NoRule
+  abbrev LoweredFor : Meaning → Rule ℕ → Option NodeRule → Type 0
+  LoweredFor (formula f) rule to = to ≡ None
   LoweredFor (policy p) rule to = RightRule rule (rule_of (propositions_of sheet) p) to
 
-  policy-for : (x : Meaning) (rule : Rule ℕ) (to : Lowered) (m : Mode) (k : Bound) → Agrees (Policy m k) x → LoweredFor x rule to
+  policy-for : (x : Meaning) (rule : Rule ℕ) (to : Option NodeRule) (m : Mode) (k : Bound) → Agrees (Policy m k) x → LoweredFor x rule to
       → RightRule rule (rule_of (propositions_of sheet) (as_policy x)) to
   policy-for (formula f) rule to m k a r = absurd a
   policy-for (policy p) rule to m k a r = r
 
   -- the code's rule is the rule itself, over the policies of the nodes
   abbrev Plain : NodeRule → Type 0
-  Plain code = RightRule (rule_over code) (on_parts (node_policy sheet) (rule_over code)) (AsRule code)
+  Plain code = RightRule (rule_over code) (on_parts (node_policy sheet) (rule_over code)) (Some code)
 
   plain : (code : NodeRule) → AllParts Q (rule_over code) → CountInRange (rule_over code) → Plain code
   plain code parts count = record { code = code; is = refl; over = refl; same = equal (rule_over code); parts = parts; count = count }
@@ -103,11 +100,11 @@ module _ (sheet : Sheet) (Q : ℕ → Type 0) where
   -- And and Or go by the mode of their parts
   by-mode : (m : Mode) (k : Bound) (r s : NodeRule) → Plain r → Plain s
       → RightRule (on_watched (Typed m k) (rule_over r) (rule_over s)) (on_watched (Typed m k) (on_parts (node_policy sheet) (rule_over r)) (on_parts (node_policy sheet) (rule_over s)))
-      (AsRule (by_mode m r s))
+      (Some (by_mode m r s))
   by-mode Watched k r s p q = p
   by-mode Enforced k r s p q = q
 
-  opened : (hit : ℕ → Bool) (s : ℕ) → ((x : ℕ) → x < sheet.actions → bit s x ≡ hit x) → RightRule (opening-r hit) (opening-r hit) (AsRule (coded.Opening s))
+  opened : (hit : ℕ → Bool) (s : ℕ) → ((x : ℕ) → x < sheet.actions → bit s x ≡ hit x) → RightRule (opening-r hit) (opening-r hit) (Some (coded.Opening s))
   opened hit s r = record { code = coded.Opening s; is = refl; over = refl; same = opens _ _ (λ x h. sym (r x h)); parts = tt; count = tt }
 
   module _ {mode : Mode} (types : List TypedNode) (sound : SoundSheet mode sheet types) (n : ℕ) (below : n < sheet.count)

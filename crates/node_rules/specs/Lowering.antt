@@ -1,7 +1,7 @@
 -- Lowering the used policy nodes of a list to rules: of a formula the rule has its set, and nothing here knows what a formula or an action's
 -- propositions are.
 -- Assumes nothing.
-use Rattle.std.specs.Prelude.{◌≡◌, Bool, List, ℕ, ◌<◌, get_or}
+use Rattle.std.specs.Prelude.{◌≡◌, Bool, List, ℕ, Option, Some, None, ◌<◌, get_or}
 use Rattle.base.specs.Build.{filled}
 use Rattle.base.specs.Sets.{others_below}
 use Rattle.trace.specs.declared.Mode.{Mode}
@@ -17,9 +17,6 @@ use Rattle.syntax.specs.declared.NodeType.TheVariants.{Unused, Formula, Policy}
 use Rattle.syntax.specs.declared.TypedNode.{TypedNode}
 use Rattle.rules.specs.declared.NodeRule.{NodeRule}
 use Rattle.rules.specs.declared.NodeRule.TheVariants as coded
-use Rattle.rules.specs.declared.Lowered.{Lowered}
-use Rattle.rules.specs.declared.Lowered.TheVariants.{AsRule, NoRule}
-use Rattle.rules.specs.declared.RuleAt.{RuleAt}
 
 -- And and Or go by their mode, which is that of their parts.
 abbrev pub by_mode : Mode → NodeRule → NodeRule → NodeRule
@@ -27,32 +24,32 @@ by_mode Watched watched enforced = watched
 by_mode Enforced watched enforced = enforced
 
 -- The rule of a policy node of a mode. Holds trips on the actions that are not in its formula's set.
-abbrev pub lowered : Mode → (actions : ℕ) → (sets : ℕ → ℕ) → Node → Lowered
-lowered mode actions sets True = NoRule
-lowered mode actions sets False = NoRule
-lowered mode actions sets (Proposition p) = NoRule
-lowered mode actions sets (Negation a) = NoRule
-lowered mode actions sets (Conjunction a b) = NoRule
-lowered mode actions sets (Disjunction a b) = NoRule
-lowered mode actions sets (Now a) = AsRule (coded.Opening (sets a))
-lowered mode actions sets (Holds a) = AsRule (coded.Opening (others_below actions (sets a)))
-lowered mode actions sets (Count k) = AsRule (coded.Count k)
-lowered mode actions sets (Not a) = AsRule (coded.Same a)
-lowered mode actions sets (And a b) = AsRule (by_mode mode (coded.Both a b) (coded.Either a b))
-lowered mode actions sets (Or a b) = AsRule (by_mode mode (coded.Either a b) (coded.Both a b))
-lowered mode actions sets (Eventually a) = AsRule (coded.Copied a)
-lowered mode actions sets (Always a) = AsRule (coded.Copied a)
-lowered mode actions sets (BeforeMinus a b) = AsRule (coded.Before a b)
-lowered mode actions sets (BeforePlus a b) = AsRule (coded.Before a b)
-lowered mode actions sets (AfterMinus a b) = AsRule (coded.After a b)
-lowered mode actions sets (AfterPlus a b) = AsRule (coded.After a b)
-lowered mode actions sets (Fulfilling k a b c) = AsRule (coded.Fulfilling k a b c)
-lowered mode actions sets (Ignoring a b) = AsRule (coded.Ignoring (sets a) b)
+abbrev pub lowered : Mode → (actions : ℕ) → (sets : ℕ → ℕ) → Node → Option NodeRule
+lowered mode actions sets True = None
+lowered mode actions sets False = None
+lowered mode actions sets (Proposition p) = None
+lowered mode actions sets (Negation a) = None
+lowered mode actions sets (Conjunction a b) = None
+lowered mode actions sets (Disjunction a b) = None
+lowered mode actions sets (Now a) = Some (coded.Opening (sets a))
+lowered mode actions sets (Holds a) = Some (coded.Opening (others_below actions (sets a)))
+lowered mode actions sets (Count k) = Some (coded.Count k)
+lowered mode actions sets (Not a) = Some (coded.Same a)
+lowered mode actions sets (And a b) = Some (by_mode mode (coded.Both a b) (coded.Either a b))
+lowered mode actions sets (Or a b) = Some (by_mode mode (coded.Either a b) (coded.Both a b))
+lowered mode actions sets (Eventually a) = Some (coded.Copied a)
+lowered mode actions sets (Always a) = Some (coded.Copied a)
+lowered mode actions sets (BeforeMinus a b) = Some (coded.Before a b)
+lowered mode actions sets (BeforePlus a b) = Some (coded.Before a b)
+lowered mode actions sets (AfterMinus a b) = Some (coded.After a b)
+lowered mode actions sets (AfterPlus a b) = Some (coded.After a b)
+lowered mode actions sets (Fulfilling k a b c) = Some (coded.Fulfilling k a b c)
+lowered mode actions sets (Ignoring a b) = Some (coded.Ignoring (sets a) b)
 
 -- The rule of a node by its type: only a used policy has one.
-abbrev pub of_policy : NodeType → (Mode → Lowered) → Lowered
-of_policy Unused rule = NoRule
-of_policy Formula rule = NoRule
+abbrev pub of_policy : NodeType → (Mode → Option NodeRule) → Option NodeRule
+of_policy Unused rule = None
+of_policy Formula rule = None
 of_policy (Policy m k) rule = rule m
 
 -- The set of node i in a list.
@@ -60,9 +57,9 @@ abbrev pub set_at : List ℕ → ℕ → ℕ
 set_at sets i = get_or sets i 0
 
 -- The rules of the first n nodes; after them none.
-abbrev pub rules_of : List ListedNode → List TypedNode → (sets : List ℕ) → (actions n : ℕ) → List RuleAt
+abbrev pub rules_of : List ListedNode → List TypedNode → (sets : List ℕ) → (actions n : ℕ) → List (Option NodeRule)
 rules_of nodes types sets actions n =
-    filled 64 (record { of = NoRule }) (λ i rules. record { of = of_policy (type_at types i) (λ m. lowered m actions (set_at sets) (node_at nodes i)) }) n
+    filled 64 None (λ i rules. of_policy (type_at types i) (λ m. lowered m actions (set_at sets) (node_at nodes i))) n
 
 -- Two rules say the same of the actions below `actions`.
 pub data SameRule (actions : ℕ) : Rule ℕ → Rule ℕ → Type 0 where

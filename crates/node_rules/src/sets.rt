@@ -3,12 +3,11 @@ ghost use Rattle.std.specs.Prelude.{◌≡◌, ◌^◌, ◌≤◌, ◌<◌, leng
 ghost use Rattle.base.specs.Sets.{every_below, others_below};
 ghost use Rattle.trace.specs.declared.Mode.{Mode};
 ghost use Rattle.syntax.specs.Formed.{ArgumentFits};
-ghost use Rattle.syntax.specs.Nodes.{sheet_of};
 ghost use Rattle.typing.specs.Typed.{SoundSheet};
 ghost use Rattle.node_rules.specs.FormulaSets.{proposition_set, set_from, sets_of};
 ghost use Rattle.node_rules.specs.Lowering.{set_at};
 
-use syntax::{ListedNode, Node, NodeType, TypedNode};
+use syntax::{Node, NodeType, Sheet, TypedNode};
 
 // The set of one action.
 fn only(action: usize) -> u16
@@ -39,13 +38,11 @@ fn proposition_set(propositions: &[u16; 16], actions: usize, p: u8) -> u16
     requires { (actions ≤ 16) × (p < 16) }
     ensures { result ≡ proposition_set propositions.now actions p }
 {
-    let mut set: u16 = 0;
-    let mut a = 0;
-    while a < actions {
+    let mut set = 0;
+    for a in 0..actions {
         if (propositions[a] >> p) % 2 == 1 {
             set += only(a);
         }
-        a += 1;
     }
     set
 }
@@ -55,10 +52,10 @@ pub fn set_at(sets: &[u16; 64], i: u8) -> u16
     requires { length sets.now ≡ 64 }
     ensures { result ≡ set_at sets.now i }
 {
-    if i < 64 { sets[i as usize] } else { 0 }
+    sets.get(usize::from(i)).copied().unwrap_or(0)
 }
 
-// The set of a node, from those of the nodes before it.
+// The set of a node, from those of the nodes before it. A policy has none.
 fn formula_set(node: Node, propositions: &[u16; 16], actions: usize, sets: &[u16; 64]) -> u16
     requires actions_bound { (actions ≤ 16) × (length sets.now ≡ 64) }
     requires argument_fits { ArgumentFits node }
@@ -66,54 +63,28 @@ fn formula_set(node: Node, propositions: &[u16; 16], actions: usize, sets: &[u16
 {
     match node {
         Node::True => every_action(actions),
-        Node::False => 0,
         Node::Proposition(p) => proposition_set(propositions, actions, p),
         Node::Negation(a) => others(actions, set_at(sets, a)),
         Node::Conjunction(a, b) => set_at(sets, a) & set_at(sets, b),
         Node::Disjunction(a, b) => set_at(sets, a) | set_at(sets, b),
-        Node::Now(_) => 0,
-        Node::Holds(_) => 0,
-        Node::Count(_) => 0,
-        Node::Not(_) => 0,
-        Node::And(_, _) => 0,
-        Node::Or(_, _) => 0,
-        Node::Eventually(_) => 0,
-        Node::Always(_) => 0,
-        Node::BeforeMinus(_, _) => 0,
-        Node::BeforePlus(_, _) => 0,
-        Node::AfterMinus(_, _) => 0,
-        Node::AfterPlus(_, _) => 0,
-        Node::Fulfilling(_, _, _, _) => 0,
-        Node::Ignoring(_, _) => 0,
+        _ => 0,
     }
 }
 
 // The set of each used formula node of a sound sheet: bit a for action a.
-pub fn formula_sets(
-    nodes: [ListedNode; 64],
-    types: [TypedNode; 64],
-    count: usize,
-    propositions: &[u16; 16],
-    actions: usize,
-) -> [u16; 64]
-    requires { (mode : Mode) × SoundSheet mode (sheet_of actions propositions.now count nodes) types }
-    ensures { result ≡ sets_of (sheet_of actions propositions.now count nodes) types }
+pub fn formula_sets(sheet: &Sheet, types: &[TypedNode; 64]) -> [u16; 64]
+    requires { (mode : Mode) × SoundSheet mode sheet.now types.now }
+    ensures { result ≡ sets_of sheet.now types.now }
 {
-    let mut sets = [0u16; 64];
-    let mut n = 0;
-    while n < count {
-        let i = n;
-        n += 1;
-        let typed = types[i];
-        let of = typed.of;
-        match of {
-            NodeType::Unused => {}
-            NodeType::Formula => {
-                let listed = nodes[i];
-                let node = listed.node;
-                sets[i] = formula_set(node, propositions, actions, &sets);
-            }
-            NodeType::Policy(_, _) => {}
+    let mut sets = [0; 64];
+    for n in 0..sheet.count {
+        if let NodeType::Formula = types[n].of {
+            sets[n] = formula_set(
+                sheet.nodes[n].node,
+                &sheet.propositions,
+                sheet.actions,
+                &sets,
+            );
         }
     }
     sets

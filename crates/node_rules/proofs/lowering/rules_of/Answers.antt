@@ -1,83 +1,55 @@
 -- The goals of `node_rules::lowering::rules_of` that the check leaves.
-use mathlib.Core.Path.{◌≡◌, refl, ap, sym, ◌∙◌}
+use mathlib.Core.Path.{◌≡◌, refl, sym, ◌∙◌}
 use mathlib.Core.List.{List}
 use Prim.Native.Nat.{ℕ, suc}
 use native.Mathlib.Numerals.{add-one}
-use native.Mathlib.Omega.{arith}
 use lib.ListN.{set}
-use borrow.Author.Rules.{rules}
+use Rattle.std.specs.Prelude.{Option, None}
 use Rattle.base.proofs.Filled.{filled-skip}
+use Rattle.trace.specs.declared.Mode.{Mode}
+use Rattle.policy.specs.declared.Bound.{Bound}
 use Rattle.syntax.specs.Nodes.{node_at}
 use Rattle.syntax.specs.Types.{type_at}
 use Rattle.syntax.specs.declared.ListedNode.{ListedNode}
 use Rattle.syntax.specs.declared.NodeType.{NodeType}
+use Rattle.syntax.specs.declared.NodeType.TheVariants.{Unused, Formula, Policy}
 use Rattle.syntax.specs.declared.TypedNode.{TypedNode}
-use Rattle.rules.specs.declared.Lowered.{Lowered}
-use Rattle.rules.specs.declared.Lowered.TheVariants.{NoRule}
-use Rattle.rules.specs.declared.RuleAt.{RuleAt}
+use Rattle.rules.specs.declared.NodeRule.{NodeRule}
 use Rattle.node_rules.specs.Lowering.{lowered, of_policy, rules_of, set_at}
 use Rattle.node_rules.proofs.lowering.rules_of.Goals as goal
-use Rattle.node_rules.proofs.lowering.rules_of.Goals.{In-loop-n, Start}
+use Rattle.node_rules.proofs.lowering.rules_of.Goals.{in-Policy, in_default}
 
--- the type of node n is looked at
-module _ (c : In-loop-n) where
-  abbrev start : Start
-  start = (goal.at.In-loop-n c).Start
-
-  abbrev nodes : List ListedNode
-  nodes = start.args.nodes
-
-  abbrev types : List TypedNode
-  types = start.args.types
-
-  abbrev sets : List ℕ
-  sets = start.args.sets.now
-
-  abbrev actions : ℕ
-  actions = start.args.actions
-
-  abbrev n : ℕ
-  n = c.loop-n.n
-
-  abbrev lowering : List RuleAt
-  lowering = c.loop-n.rules
-
-  so_far : lowering ≡ rules_of nodes types sets actions n
-  so_far = c.loop-n.invariant.1
-
+module _ (nodes : List ListedNode) (types : List TypedNode) (sets : List ℕ) (actions n : ℕ) {rules : List (Option NodeRule)}
+    (so-far : rules ≡ rules_of nodes types sets actions n) where
   -- the node's own rule, by its type
-  abbrev own : NodeType → RuleAt
-  own t = record { of = of_policy t (λ m. lowered m actions (set_at sets) (node_at nodes n)) }
+  abbrev own : NodeType → Option NodeRule
+  own t = of_policy t (λ m. lowered m actions (set_at sets) (node_at nodes n))
 
-  -- it has none
-  skipped : {t : NodeType} → type_at types n ≡ t → own t ≡ record { of = NoRule } → lowering ≡ rules_of nodes types sets actions (suc n)
-  skipped e z =
-      so_far
-      ∙ sym (filled-skip 64 (record { of = NoRule }) (λ i l. record { of = of_policy (type_at types i) (λ m. lowered m actions (set_at sets) (node_at nodes i)) }) n (ap own e ∙ z))
+  -- node n is no policy
+  skipped : ((m : Mode) (k : Bound) → type_at types n ≡ Policy m k → ⊥) → rules ≡ rules_of nodes types sets actions (suc n)
+  skipped none =
+      so-far
+      ∙ sym (filled-skip 64 None (λ i l. of_policy (type_at types i) (λ m. lowered m actions (set_at sets) (node_at nodes i))) n (by (type_at types n) none))
+    where
+      by : (t : NodeType) → ((m : Mode) (k : Bound) → t ≡ Policy m k → ⊥) → own t ≡ None
+      by Unused h = refl
+      by Formula h = refl
+      by (Policy m k) h = absurd (h m k refl)
 
-pub loop-n-preserved-in-Unused : goal.loop-n-preserved-in-Unused
-loop-n-preserved-in-Unused c =
-    let a = (goal.at.loop-n-preserved-in-Unused c).In-loop-n in
-    (search rules, rw (add-one (n a)) (skipped a c.in-Unused.is refl))
-
-pub loop-n-preserved-in-Formula : goal.loop-n-preserved-in-Formula
-loop-n-preserved-in-Formula c =
-    let a = (goal.at.loop-n-preserved-in-Formula c).In-loop-n in
-    (search rules, rw (add-one (n a)) (skipped a c.in-Formula.is refl))
+  -- it is one, and has its rule
+  listed : {m : Mode} {k : Bound} {rule : Option NodeRule} → type_at types n ≡ Policy m k → rule ≡ lowered m actions (set_at sets) (node_at nodes n)
+      → set rules n rule ≡ rules_of nodes types sets actions (suc n)
+  listed is e = rw (e, so-far, is) refl
 
 pub loop-n-preserved : goal.loop-n-preserved
 loop-n-preserved c =
-    let a = (goal.at.loop-n-preserved c).In-loop-n in (
-      search rules,
-      rw (add-one (n a), ← so_far a)
-          (ap (λ (x : Lowered). set (lowering a) (n a) (record { of = x }))
-          (c.lower.ensures ∙ ap (λ (t : NodeType). (own a t).of) (sym c.in-Policy.is))),
-    )
-
-pub returns : goal.returns
-returns c =
-    let e : c.loop-n.n ≡ c.args.count = omega arith in
-    c.loop-n.invariant.1 ∙ rw e
-
-pub loop-n-init : goal.loop-n-init
-loop-n-init c = (search rules, refl)
+    let a = c.args in
+    let n = c.loop-n.n in
+    let so-far = c.loop-n.invariant in
+    rw (add-one n)
+    (elim c.match-types-n.branch [
+      | in-Policy w ↦
+          w.rules-is ∙ listed a.sheet.now.nodes a.types.now a.sets.now a.sheet.now.actions n so-far w.in-Policy.is w.lower.ensures
+      | in_default w ↦
+          w.rules-is ∙ skipped a.sheet.now.nodes a.types.now a.sets.now a.sheet.now.actions n so-far w.in_default.not-Policy
+    ])

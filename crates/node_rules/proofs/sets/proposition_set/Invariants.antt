@@ -1,11 +1,7 @@
 -- `node_rules::sets::proposition_set` meets its contract. The loop's invariant: the set has the actions before `a` that satisfy the proposition.
 use mathlib.Core.Path.{◌≡◌}
-use Prim.Native.Nat.{◌-◌, ◌≤◌}
 use Rattle.node_rules.specs.FormulaSets.{proposition_set}
 use Rattle.node_rules.proofs.sets.proposition_set.Given as goal
 
 abbrev pub invariant-loop-a : goal.invariant-loop-a
-invariant-loop-a l = (l.a ≤ l.actions) × (l.set ≡ proposition_set l.propositions l.a l.p)
-
-abbrev pub decreases-loop-a : goal.decreases-loop-a
-decreases-loop-a l = l.actions - l.a
+invariant-loop-a l = l.set ≡ proposition_set l.propositions l.a l.p
