@@ -1,6 +1,6 @@
 -- The public call: its answer in the numbers of docs/FORMATS.md, "Refusals", and every byte of the output.
 -- Assumes nothing.
-use Rattle.std.specs.Prelude.{List, ◌++◌, ℕ, ◌≤◌, ◌<◌, length, drop}
+use Rattle.std.specs.Prelude.{List, ◌++◌, ℕ, ◌≤◌, ◌<◌, Result, Ok, Err, length, drop}
 use Rattle.sheet_writer.specs.Bytes.{largest_sheet, sheet_bytes}
 use Rattle.sheet_writer.specs.Sheets.{SomeActions, Narrow}
 use Rattle.grammar.specs.Words.{words_of}
@@ -11,21 +11,22 @@ use Rattle.parsed_sheets.specs.Sheets.{sheet_for}
 use Rattle.grammar.specs.declared.Category.{Category}
 use Rattle.grammar.specs.declared.Category.TheVariants.{Text}
 use Rattle.parser_state.specs.Progress.{longest_text}
-use Rattle.parser.specs.declared.TextRead.{TextRead}
-use Rattle.parser.specs.declared.TextRead.TheVariants.{Sheet, ShortArea, Actions, LongText, Unreadable, TooManyNodes}
+use Rattle.parser.specs.declared.SheetRead.{SheetRead}
+use Rattle.parser.specs.declared.TextError.{TextError}
+use Rattle.parser.specs.declared.TextError.TheVariants.{ShortArea, Actions, LongText, Unreadable, TooManyNodes}
 
 -- An answer: a sheet is written, with its length in bytes and its numbers of actions and nodes; or a refusal's number and spot.
 pub data TextAnswer : Type 0 where
   written : (bytes actions nodes : ℕ) → TextAnswer
   refused : (number spot : ℕ) → TextAnswer
 
-abbrev pub answer_of : TextRead → TextAnswer
-answer_of (Sheet bytes actions nodes) = written bytes actions nodes
-answer_of ShortArea = refused 14 0
-answer_of Actions = refused 2 0
-answer_of LongText = refused 31 0
-answer_of (Unreadable spot expected) = refused 32 spot
-answer_of TooManyNodes = refused 33 0
+abbrev pub answer_of : Result SheetRead TextError → TextAnswer
+answer_of (Ok sheet) = written sheet.length sheet.actions sheet.nodes
+answer_of (Err ShortArea) = refused 14 0
+answer_of (Err Actions) = refused 2 0
+answer_of (Err LongText) = refused 31 0
+answer_of (Err (Unreadable spot expected)) = refused 32 spot
+answer_of (Err TooManyNodes) = refused 33 0
 
 -- What reading a text gives where the output is long enough, the actions are some and few, and the text is not too long.
 pub data ReadsAs (text actions out : List ℕ) : TextAnswer → List ℕ → Type 0 where
@@ -48,10 +49,10 @@ pub data ReadsInto (text actions out : List ℕ) : TextAnswer → List ℕ → T
       → ReadsInto text actions out answer out''
 
 -- What an answer says besides: the words that could stand at the spot of 32.
-pub data Tells (text : List ℕ) : TextRead → Type 0 where
-  of-sheet : {bytes actions nodes : ℕ} → Tells text (Sheet bytes actions nodes)
-  of-area : Tells text ShortArea
-  of-actions : Tells text Actions
-  of_length : Tells text LongText
-  of-spot : {spot : ℕ} {expected : Category} → Expects (words_of text) spot expected → Tells text (Unreadable spot expected)
-  of-nodes : Tells text TooManyNodes
+pub data Tells (text : List ℕ) : Result SheetRead TextError → Type 0 where
+  of-sheet : {sheet : SheetRead} → Tells text (Ok sheet)
+  of-area : Tells text (Err ShortArea)
+  of-actions : Tells text (Err Actions)
+  of_length : Tells text (Err LongText)
+  of-spot : {spot : ℕ} {expected : Category} → Expects (words_of text) spot expected → Tells text (Err (Unreadable spot expected))
+  of-nodes : Tells text (Err TooManyNodes)

@@ -7,15 +7,17 @@ mod call;
 
 pub use call::read_text;
 
-// What reading a text answers: a sheet, its length in bytes and its numbers of actions and nodes; or a refusal, 32 with its spot and what was to come
-// there.
+// A text that was read: the length of its sheet in bytes, and its numbers of actions and nodes.
 #[derive(Clone, Copy)]
-pub enum TextRead {
-    Sheet {
-        length: usize,
-        actions: usize,
-        nodes: usize,
-    },
+pub struct SheetRead {
+    pub length: usize,
+    pub actions: usize,
+    pub nodes: usize,
+}
+
+// What is refused: 14, 2, 31, 32 with its spot and what was to come there, and 33.
+#[derive(Clone, Copy)]
+pub enum TextError {
     ShortArea,
     Actions,
     LongText,

@@ -6,7 +6,7 @@ ghost use Rattle.parser_state.specs.Progress.{stuck_at, Sane, Takes};
 
 use crate::{Progress, Taken};
 use grammar::Category;
-use lexer::{Next, read_word};
+use lexer::read_word;
 
 // The number has four fields: the position, the words, the nodes, the mark. A field is below this.
 const FIELD: u64 = 65536;
@@ -100,8 +100,8 @@ pub fn take_word(text: &[u8], p: u64) -> Taken
     let Progress::Going { at, words, nodes } = unpack(p) else {
         return Taken::Nothing;
     };
-    match read_word(text, at) {
-        Next::Word(token, next) => Taken::Word(token, going(next, words + 1, nodes)),
-        Next::Nothing => Taken::Nothing,
-    }
+    let Some(word) = read_word(text, at) else {
+        return Taken::Nothing;
+    };
+    Taken::Word(word.token, going(word.end, words + 1, nodes))
 }

@@ -4,16 +4,14 @@ use Rattle.descent.specs.Parsing.{ParsesText}
 use Rattle.parser.proofs.TextAnswers.{answers-stuck, answers-many, answers-sheet}
 use Rattle.parser.proofs.call.read_short.Goals as goal
 
-pub returns-then-count-gt64 : goal.returns-then-count-gt64
-returns-then-count-gt64 c =
-    answers-many (subst (ParsesText _ _) (sym c.unpack.ensures ∙ c.in-Going.is) c.read_rule.ensures.0) c.if-count-gt64.true
-
 pub returns-in-Stuck : goal.returns-in-Stuck
 returns-in-Stuck c =
     answers-stuck (subst (ParsesText _ _) (sym c.unpack.ensures ∙ c.in-Stuck.is) c.read_rule.ensures.0)
 
-pub returns-else-count-gt64 : goal.returns-else-count-gt64
-returns-else-count-gt64 c =
-    let f = c in
-    let k = f in
-    answers-sheet (subst (ParsesText _ _) (sym k.unpack.ensures ∙ k.in-Going.is) k.read_rule.ensures.0) f.if-count-gt64.false c.write_sheet.ensures
+pub returns-then-nodes-gt64 : goal.returns-then-nodes-gt64
+returns-then-nodes-gt64 c =
+    answers-many (subst (ParsesText _ _) (sym c.unpack.ensures ∙ c.in-Going.is) c.read_rule.ensures.0) c.if-nodes-gt64.true
+
+pub returns : goal.returns
+returns c =
+    answers-sheet (subst (ParsesText _ _) (sym c.unpack.ensures ∙ c.in-Going.is) c.read_rule.ensures.0) c.if-nodes-gt64.false c.write_sheet.ensures

@@ -9,27 +9,17 @@ pub returns-in_default : goal.returns-in_default
 returns-in_default c =
     nothing (exhausted-stuck c.args.text.now (sym c.unpack.ensures ∙ c.in_default.is))
 
+pub returns-in_default-read_word : goal.returns-in_default-read_word
+returns-in_default-read_word c =
+    nothing (exhausted c.args.text.now (sym c.unpack.ensures ∙ c.in-Going.is) (none_here c.read_word.ensures c.in_default-read_word.is))
+
 pub overflow_add-words : goal.overflow_add-words
-overflow_add-words c =
-    let u = c in
-    omega (arith, few-counts u.requires (sym u.unpack.ensures ∙ c.in-Going.is))
+overflow_add-words c = omega (arith, few-counts c.requires (sym c.unpack.ensures ∙ c.in-Going.is))
 
 pub going-requires : goal.going-requires
 going-requires c =
-    let a = c in
-    let u = a in
-    let few = few-counts u.requires (sym u.unpack.ensures ∙ a.in-Going.is) in
-    (omega (arith, few_bytes u.requires c.read_word.ensures c.in-Word.is), omega arith, omega arith)
+    let few = few-counts c.requires (sym c.unpack.ensures ∙ c.in-Going.is) in
+    (omega (arith, few_bytes c.requires c.read_word.ensures c.in-Some.is), omega arith, omega arith)
 
-pub returns-in-Word : goal.returns-in-Word
-returns-in-Word c =
-    let r = c in
-    let a = r in
-    let u = a in
-    word (here u.requires (sym u.unpack.ensures ∙ a.in-Going.is) r.read_word.ensures c.in-Word.is c.going.ensures)
-
-pub returns-in-Nothing : goal.returns-in-Nothing
-returns-in-Nothing c =
-    let a = c in
-    let u = a in
-    nothing (exhausted u.args.text.now (sym u.unpack.ensures ∙ a.in-Going.is) (none_here c.read_word.ensures c.in-Nothing.is))
+pub returns : goal.returns
+returns c = word (here c.requires (sym c.unpack.ensures ∙ c.in-Going.is) c.read_word.ensures c.in-Some.is c.going.ensures)
