@@ -1,12 +1,10 @@
 -- Minimising a machine in the stated numbering into a slot.
 -- Assumes nothing.
-use Rattle.std.specs.Prelude.{◌≡◌, List, ℕ, ◌*◌, ◌≤◌, ◌<◌, length, get_or, take}
+use Rattle.std.specs.Prelude.{◌≡◌, List, ℕ, Option, Some, None, ◌*◌, ◌≤◌, ◌<◌, length, get_or, take}
 use Rattle.trace.specs.Trace.{Step}
 use Rattle.limits.specs.Limits.{RowLimit}
 use Rattle.automaton.specs.Machine.{transition, AlikeStates, Machine, Numbered}
 use Rattle.automaton.specs.Partition.{Over}
-use Rattle.automaton.specs.declared.Refined.{Refined}
-use Rattle.automaton.specs.declared.Refined.TheVariants.{Classes, TooMany}
 use Rattle.machine_rows.specs.Machines.{RowsFor}
 
 -- A slot begins with the rows of a machine, and the rest is 255.
@@ -14,10 +12,10 @@ pub record RowsIn (actions : ℕ) (step : Step ℕ) (start limit rows : ℕ) (sl
   pub rows-for : RowsFor actions step start limit rows (take (rows * actions) slot)
   pub blank : (k : ℕ) → rows * actions ≤ k → get_or slot k 255 ≡ 255
 
--- What minimising a machine with mark 65,535 answers: its rows, or that more than the limit are needed.
-abbrev pub MinimisesTo : (states actions : ℕ) → List ℕ → (limit : ℕ) → Refined → List ℕ → List ℕ → Type 0
-MinimisesTo states actions next limit (Classes rows) before behind = RowsIn actions (transition 65535 actions next) 0 limit rows behind
-MinimisesTo states actions next limit TooMany before behind = Over (AlikeStates 65535 actions next) states limit × (behind ≡ before)
+-- What minimising a machine with mark 65,535 answers: how many rows it has, or none, that more than the limit are needed.
+abbrev pub MinimisesTo : (states actions : ℕ) → List ℕ → (limit : ℕ) → Option ℕ → List ℕ → List ℕ → Type 0
+MinimisesTo states actions next limit (Some rows) before behind = RowsIn actions (transition 65535 actions next) 0 limit rows behind
+MinimisesTo states actions next limit None before behind = Over (AlikeStates 65535 actions next) states limit × (behind ≡ before)
 
 -- What minimising is lent: a machine in the stated numbering, a class for each state in both lists, and room for the rows.
 pub record Minimisable (actions limit : ℕ) (next classes other slot : List ℕ) : Type 0 where

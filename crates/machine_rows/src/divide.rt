@@ -2,10 +2,8 @@
 ghost use Rattle.std.specs.Prelude.{length};
 ghost use Rattle.machine_rows.specs.Minimises.{MinimisesTo, Minimisable};
 
-use automaton::Refined;
-use refinement::room_for_firsts;
-
-// Minimises a machine in the stated numbering: writes its rows to the front of the slot and 255 behind them. Classes are scratch.
+// Minimises a machine in the stated numbering: writes its rows to the front of the slot and 255 behind them. None where there are more rows than
+// the limit. Classes are scratch.
 pub fn minimise(
     next: &[u16],
     actions: usize,
@@ -13,16 +11,13 @@ pub fn minimise(
     classes: &mut [u8],
     other: &mut [u8],
     slot: &mut [u8],
-) -> Refined
+) -> Option<usize>
     requires { Minimisable actions limit next.now classes.old other.old slot.old }
     ensures { MinimisesTo (length classes.old) actions next.now limit result slot.old slot.new }
 {
-    let mut firsts = room_for_firsts();
-    let refined = refinement::refine(next, actions, limit, classes, other, &mut firsts);
-    let Refined::Classes(count) = refined else {
-        return Refined::TooMany;
-    };
-    base::fill(slot, 255);
+    let mut firsts = base::room::<usize, 64>(0);
+    let count = refinement::refine(next, actions, limit, classes, other, &mut firsts)?;
+    slot.fill(255);
     quotient::quotient(next, classes, &firsts, actions, count, slot);
-    Refined::Classes(count)
+    Some(count)
 }

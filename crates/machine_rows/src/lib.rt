@@ -2,14 +2,12 @@
 #![tactic(auto)]
 
 mod divide;
-mod scratch;
 mod sizes;
 
 ghost use Rattle.machine_rows.specs.Builds.{PlanTo, Buildable};
 
 use limits::Limits;
-pub use sizes::build_large;
-use sizes::build_small;
+use sizes::build_in;
 use steppers::Stepper;
 
 // What is to be built: which machine, its slot, and the most values and rows that it may have.
@@ -21,39 +19,37 @@ pub struct Plan {
     pub limits: Limits,
 }
 
-// What building a machine's rows answers: their number, or the limit that the machine is over.
-#[derive(Clone, Copy)]
-pub enum MachineBuilt {
-    Rows(usize),
-    TooManyValues,
-    TooManyRows,
+// The limit that a machine is over.
+#[derive(Clone, Copy, PartialEq, Eq)]
+pub enum OverLimit {
+    Values,
+    Rows,
 }
 
-// Builds the rows of a machine and writes them to its slot of the work area; the rest of the slot becomes 255. Where a limit is
-// exceeded, the work area is left as it was. Most machines have few values, so the small scratch lists are tried first.
-pub fn build_slot(plan: Plan, work: &mut [u8], values: &mut [u64]) -> MachineBuilt
+// Builds as build_slot does, in scratch lists for as many values as any machine may have: 36 KiB of stack.
+pub fn build_large(plan: Plan, work: &mut [u8], values: &mut [u64]) -> Result<usize, OverLimit>
     requires { Buildable plan work.old values.old }
     ensures { PlanTo plan result work.old work.new }
 {
-    let limits = plan.limits;
-    if limits.values <= 64 {
-        return build_small(plan, work, values);
+    build_in::<1024, 16384>(plan, work, values)
+}
+
+// Builds the rows of a machine and writes them to its slot of the work area; the rest of the slot becomes 255. Where a limit is
+// exceeded, the work area is left as it was. Most machines have few values, so scratch lists for 64 are tried first: 2,304 bytes of stack.
+pub fn build_slot(plan: Plan, work: &mut [u8], values: &mut [u64]) -> Result<usize, OverLimit>
+    requires { Buildable plan work.old values.old }
+    ensures { PlanTo plan result work.old work.new }
+{
+    if plan.limits.values <= 64 {
+        return build_in::<64, 1024>(plan, work, values);
     }
-    let stepper = plan.stepper;
-    let narrow = Limits {
+    let limits = Limits {
         values: 64,
-        rows: limits.rows,
+        ..plan.limits
     };
-    let few = Plan {
-        stepper,
-        slot: plan.slot,
-        actions: plan.actions,
-        limits: narrow,
-    };
-    let built = build_small(few, work, values);
-    match built {
-        MachineBuilt::Rows(count) => MachineBuilt::Rows(count),
-        MachineBuilt::TooManyRows => MachineBuilt::TooManyRows,
-        MachineBuilt::TooManyValues => build_large(plan, work, values),
+    match build_in::<64, 1024>(Plan { limits, ..plan }, work, values) {
+        Ok(rows) => Ok(rows),
+        Err(OverLimit::Rows) => Err(OverLimit::Rows),
+        Err(OverLimit::Values) => build_large(plan, work, values),
     }
 }
