@@ -47,14 +47,14 @@ module _ {R : ℕ → ℕ → Type 0} {classes finer firsts : List ℕ} {s count
       by zero f = omega arith
       by (suc n) f = let t = f n (omega arith) in omega (arith, r.rises t.0 t.1, p.below t.0 t.1)
 
-  -- so does s, with the class found
-  pub risen-more : {actions : ℕ} {next : List ℕ} {c : ℕ} → class_of classes s ≤ count → s < length finer → ClassFound actions next classes firsts count s c
-      → Risen classes (set finer s c) (s + 1)
-  risen-more {c = c} begun room found = record { rises = rises }
-    where
-      own : class_of classes s ≤ c
-      own = elim (ℕ_discrete c count) [ yes e ↦ omega arith | no q ↦ omega (arith, first-risen c (omega (arith, found.within)), (found.here (omega (arith, found.within))).class) ]
+  -- s was in none above the class found
+  pub found-risen : {actions : ℕ} {next : List ℕ} {c : ℕ} → ClassFound actions next classes firsts count s c → class_of classes s ≤ c
+  found-risen {c = c} found = omega (arith, first-risen c found.within, found.here.class)
 
+  -- so s has a class that is not lower
+  pub risen-more : {c : ℕ} → class_of classes s ≤ c → s < length finer → Risen classes (set finer s c) (s + 1)
+  risen-more {c = c} own room = record { rises = rises }
+    where
       rises : (t : ℕ) → t < s + 1 → class_of classes t ≤ class_of (set finer s c) t
       rises t h =
           elim (ℕ_discrete t s) [

@@ -37,11 +37,16 @@ abbrev pub SplitsTo : (R : ℕ → ℕ → Type 0) (states limit : ℕ) → Opti
 SplitsTo R states limit (Some count) classes firsts = (count ≤ limit) × Partition R states count classes firsts
 SplitsTo R states limit None classes firsts = Over R states limit
 
--- The lowest class whose first member has the signature of s, or `count` where none has.
+-- The lowest class whose first member has the signature of s.
 pub record ClassFound (actions : ℕ) (next classes firsts : List ℕ) (count s found : ℕ) : Type 0 where
-  pub within : found ≤ count
-  pub here : found < count → SameSignature actions next classes (first_of firsts found) s
+  pub within : found < count
+  pub here : SameSignature actions next classes (first_of firsts found) s
   pub lowest : (c : ℕ) → c < found → SameSignature actions next classes (first_of firsts c) s → ⊥
+
+-- What a search for it finds: none where no first member has the signature of s.
+abbrev pub FindsClass : (actions : ℕ) (next classes firsts : List ℕ) (count s : ℕ) → Option ℕ → Type 0
+FindsClass actions next classes firsts count s (Some found) = ClassFound actions next classes firsts count s found
+FindsClass actions next classes firsts count s None = (c : ℕ) → c < count → SameSignature actions next classes (first_of firsts c) s → ⊥
 
 -- What is lent to a search among the first members: they and s are states. Under the classes so far s has a class up to `count`, and the first
 -- member of class c one up to c, so that no class below that of s has its signature.

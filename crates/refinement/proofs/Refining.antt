@@ -6,8 +6,7 @@ use Prim.Native.Nat.{ℕ, ◌≤◌, ◌<◌}
 use native.Mathlib.Omega.{arith}
 use lib.ListN.{length, replicate, get_or-replicate, length-replicate}
 use Rattle.automaton.specs.Machine.{Machine, AlikeStates}
-use Rattle.automaton.specs.Partition.{class_of, SameSignature, Partition, Over, SplitsTo}
-use Rattle.std.proofs.Common.{Option, Some, None}
+use Rattle.automaton.specs.Partition.{class_of, SameSignature, Partition, Over}
 use Rattle.automaton.proofs.Compared.{signature-equivalence}
 use Rattle.refinement.specs.Refining.{Refining}
 use Rattle.refinement.proofs.Counted.{one-classified, partition-classified, no-fewer}
@@ -31,30 +30,28 @@ one-refining states actions limit next classes h some e =
     zeros : (s : ℕ) → s < states → class_of classes s ≡ 0
     zeros s g = rw e (get_or-replicate states s 0 255 g)
 
-module _ (states actions limit count : ℕ) (next classes : List ℕ) (r : Refining states actions limit count next classes)
-    (found : Option ℕ) (split firsts : List ℕ) (p : SplitsTo (SameSignature actions next classes) (length classes) limit found split firsts) where
+module _ (states actions limit count : ℕ) (next classes : List ℕ) (r : Refining states actions limit count next classes) where
   -- a pass that finds too many classes
-  pub too_many : found ≡ None → (mark : ℕ) → Machine mark states actions next → Over (AlikeStates mark actions next) states limit
-  too_many e mark m =
-      over-alike mark states actions next classes m r.paired (r.sound mark m) limit
-      (rw (e, r.paired) at p)
+  pub too_many : Over (SameSignature actions next classes) (length classes) limit → (mark : ℕ) → Machine mark states actions next
+      → Over (AlikeStates mark actions next) states limit
+  too_many o mark m = over-alike mark states actions next classes m r.paired (r.sound mark m) limit (rw r.paired at o)
 
-  module _ (finer : ℕ) (e : found ≡ Some finer) where
-    split-by : (finer ≤ limit) × Partition (SameSignature actions next classes) states finer split firsts
-    split-by = rw (e, r.paired) at p
+  module _ (finer : ℕ) (split firsts : List ℕ) (p : (finer ≤ limit) × Partition (SameSignature actions next classes) (length classes) finer split firsts) where
+    split-by : Partition (SameSignature actions next classes) states finer split firsts
+    split-by = rw r.paired at p.1
 
     pub no-fewer-found : count ≤ finer
-    no-fewer-found = no-fewer (signature-equivalence actions next classes) (λ s t d. d.class) r.classified split-by.1
+    no-fewer-found = no-fewer (signature-equivalence actions next classes) (λ s t d. d.class) r.classified split-by
 
     -- a pass that finds more classes
     pub refines : length split ≡ states → Refining states actions limit finer next split
     refines h =
         record {
-          few = split-by.0;
+          few = p.0;
           paired = h;
-          classified = partition-classified split-by.1;
-          growth = partition-grows (rw (← h) at split-by.1);
-          sound = λ mark m. pass-sound mark states actions next classes m r.paired (r.sound mark m) finer split firsts split-by.1;
+          classified = partition-classified split-by;
+          growth = partition-grows (rw (← h) at split-by);
+          sound = λ mark m. pass-sound mark states actions next classes m r.paired (r.sound mark m) finer split firsts split-by;
         }
 
     -- a pass that finds no more
@@ -62,7 +59,7 @@ module _ (states actions limit count : ℕ) (next classes : List ℕ) (r : Refin
     stable small same mark m = (
       r.few,
       subst (λ (n : ℕ). Partition (AlikeStates mark actions next) states n split firsts) same
-          (stable-partition mark states actions next classes m r.paired (r.sound mark m) finer split firsts split-by.1 count
+          (stable-partition mark states actions next classes m r.paired (r.sound mark m) finer split firsts split-by count
           (omega (arith, r.few))
           r.classified
           (omega arith)),

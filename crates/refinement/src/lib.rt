@@ -6,12 +6,10 @@ ghost use Rattle.automaton.specs.Machine.{Machine, AlikeStates};
 ghost use Rattle.refinement.specs.Refining.{BeginsWith};
 ghost use Rattle.automaton.specs.Partition.{SameSignature, SplitsTo, Refinable, RestrictedGrowth};
 
-use automaton::Refined;
-use base::{clear, copy};
 use distances::{measure, split};
 use signatures::find_class;
 
-// One pass: splits the states by their signatures under the classes so far.
+// One pass: splits the states by their signatures under the classes so far. The number of classes, or none where there are more than the limit.
 fn pass(
     next: &[u16],
     classes: &[u8],
@@ -19,29 +17,32 @@ fn pass(
     firsts: &mut [usize],
     actions: usize,
     limit: usize,
-) -> Refined
+) -> Option<usize>
     requires refinable { Refinable actions limit next.now classes.now finer.old firsts.old }
     requires restricted_growth { RestrictedGrowth classes.now }
     ensures { SplitsTo (SameSignature actions next.now classes.now) (length classes.now) limit result finer.new firsts.new }
 {
     let mut count = 0;
-    let mut s = 0;
-    while s < classes.len() {
-        let c = find_class(next, classes, firsts, actions, count, s);
-        if c == count {
-            if count == limit {
-                return Refined::TooMany;
+    for s in 0..classes.len() {
+        let class = match find_class(next, classes, firsts, actions, count, s) {
+            Some(class) => class,
+            None => {
+                if count == limit {
+                    return None;
+                }
+                let class = count;
+                firsts[class] = s;
+                count += 1;
+                class
             }
-            firsts[count] = s;
-            count += 1;
-        }
-        finer[s] = c as u8;
-        s += 1;
+        };
+        finer[s] = class as u8;
     }
-    Refined::Classes(count)
+    Some(count)
 }
 
-// The classes to begin with: one of all states, or of more than eight states those of one distance from a trip. Both lists behind them are scratch.
+// The classes to begin with: one of all states, or of more than eight states those of one distance from a trip. None where there are more than the
+// limit. Both lists behind them are scratch.
 fn begin(
     next: &[u16],
     actions: usize,
@@ -49,19 +50,15 @@ fn begin(
     classes: &mut [u8],
     far: &mut [u8],
     firsts: &mut [usize],
-) -> Refined
+) -> Option<usize>
     requires { Refinable actions limit next.now classes.old far.old firsts.old }
     ensures { BeginsWith (length classes.old) actions limit next.now result classes.new }
 {
-    if classes.len() <= 8 {
-        clear(classes);
-        return Refined::Classes(1);
-    }
-    if measure(next, actions, far) {
+    if 8 < classes.len() && measure(next, actions, far) {
         return split(far, classes, firsts, limit);
     }
-    clear(classes);
-    Refined::Classes(1)
+    classes.fill(0);
+    Some(1)
 }
 
 // Room for the first members of at most 64 classes. Only the length is known.
@@ -71,7 +68,7 @@ pub fn room_for_firsts() -> [usize; 64]
     [0usize; 64]
 }
 
-// The classes of alike states, with their first members, or that there are more classes than the limit. `other` is scratch.
+// The classes of alike states, with their first members: the number of them, or none where there are more than the limit. `other` is scratch.
 pub fn refine(
     next: &[u16],
     actions: usize,
@@ -79,23 +76,16 @@ pub fn refine(
     classes: &mut [u8],
     other: &mut [u8],
     firsts: &mut [usize],
-) -> Refined
+) -> Option<usize>
     requires { Refinable actions limit next.now classes.old other.old firsts.old }
     ensures { (mark : ℕ) → Machine mark (length classes.old) actions next.now → SplitsTo (AlikeStates mark actions next.now) (length classes.old) limit result classes.new firsts.new }
 {
-    let begun = begin(next, actions, limit, classes, other, firsts);
-    let Refined::Classes(first) = begun else {
-        return Refined::TooMany;
-    };
-    let mut count = first;
+    let mut count = begin(next, actions, limit, classes, other, firsts)?;
     loop {
-        let found = pass(next, classes, other, firsts, actions, limit);
-        let Refined::Classes(finer) = found else {
-            return Refined::TooMany;
-        };
-        copy(other, classes);
+        let finer = pass(next, classes, other, firsts, actions, limit)?;
+        classes.copy_from_slice(other);
         if finer == count {
-            return Refined::Classes(count);
+            return Some(count);
         }
         count = finer;
     }

@@ -1,15 +1,9 @@
 // Signatures of states: the class of a state and the classes behind its entries, and the search for a class by them.
 #![tactic(auto)]
 
-ghost use Rattle.std.specs.Prelude.{◌≡◌, ◌<◌, length, get_or};
-ghost use Rattle.automaton.specs.Partition.{class_of, ClassFound, Searchable};
-
-// An entry as an index.
-pub fn index(x: u16) -> usize
-    ensures { result ≡ x }
-{
-    x as usize
-}
+ghost use Rattle.std.specs.Prelude.{◌≡◌, ◌*◌, ◌<◌, length, get_or};
+ghost use Rattle.base.specs.Build.{Decides};
+ghost use Rattle.automaton.specs.Partition.{class_of, SameSignature, FindsClass, Searchable};
 
 // The class of a state, 255 for what is no state.
 pub fn class_of(classes: &[u8], s: usize) -> u8
@@ -23,11 +17,24 @@ pub fn class_behind(next: &[u16], classes: &[u8], k: usize) -> u8
     requires { k < length next.now }
     ensures { result ≡ class_of classes.now (get_or next.now k 0) }
 {
-    class_of(classes, index(next[k]))
+    class_of(classes, usize::from(next[k]))
 }
 
-// The lowest class whose first member has the signature of s, or count where none has. The search begins at the class of s so far.
-// A first member is left for the next at the first difference.
+// Whether two states have one signature: left at the first difference.
+fn same_signature(next: &[u16], classes: &[u8], actions: usize, s: usize, t: usize) -> bool
+    requires sized { length next.now ≡ length classes.now * actions }
+    requires first { s < length classes.now }
+    requires second { t < length classes.now }
+    ensures { Decides (SameSignature actions next.now classes.now s t) result }
+{
+    class_of(classes, s) == class_of(classes, t)
+        && (0..actions).all(|a| {
+            class_behind(next, classes, s * actions + a)
+                == class_behind(next, classes, t * actions + a)
+        })
+}
+
+// The lowest class whose first member has the signature of s, or none where no first member has it. The search begins at the class of s so far.
 pub fn find_class(
     next: &[u16],
     classes: &[u8],
@@ -35,25 +42,10 @@ pub fn find_class(
     actions: usize,
     count: usize,
     s: usize,
-) -> usize
+) -> Option<usize>
     requires { Searchable actions count s next.now classes.now firsts.now }
-    ensures { ClassFound actions next.now classes.now firsts.now count s result }
+    ensures { FindsClass actions next.now classes.now firsts.now count s result }
 {
-    let class = class_of(classes, s);
-    let row = s * actions;
-    let lowest = class as usize;
-    'rows: for c in lowest..count {
-        let first = firsts[c];
-        if class_of(classes, first) != class {
-            continue 'rows;
-        }
-        let first_row = first * actions;
-        for a in 0..actions {
-            if class_behind(next, classes, first_row + a) != class_behind(next, classes, row + a) {
-                continue 'rows;
-            }
-        }
-        return c;
-    }
-    count
+    let lowest = usize::from(class_of(classes, s));
+    (lowest..count).find(|&c| same_signature(next, classes, actions, firsts[c], s))
 }
