@@ -4,5 +4,5 @@
 mod asking;
 mod targets;
 
-pub use asking::{Asked, Heard, ask};
-pub use targets::{Target, look_at};
+pub use asking::{AskError, ask};
+pub use targets::{Target, TargetError, look_at};

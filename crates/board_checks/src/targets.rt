@@ -2,37 +2,36 @@
 ghost use Rattle.board_checks.specs.Targets.{Looks};
 
 use places::{AREA_LENGTH, Board, PLACES, case_at, taken};
-use scan::{Found, impossible, scan};
+use scan::scan;
 
-// What a call finds at the place that it names, in the order 14, 13, 25.
-#[derive(Clone, Copy)]
-pub enum Target {
+// Why a call that names a place is refused, in the order 14, 13, 25.
+#[derive(Clone, Copy, PartialEq, Eq, Debug)]
+pub enum TargetError {
     ShortArea,
     NoPlace,
     Impossible,
+}
+
+// The place that it names else: taken, or empty on a board whose rules are over so many actions, none where no rule is on.
+#[derive(Clone, Copy, PartialEq, Eq, Debug)]
+pub enum Target {
     Taken,
-    Empty(Found),
+    Empty(Option<usize>),
 }
 
 // Looks at the area, the place's number, the whole board, and then the place.
-pub fn look_at(board: Board, area: &[u8], place: usize) -> Target
+pub fn look_at(board: Board, area: &[u8], place: usize) -> Result<Target, TargetError>
     ensures { Looks board area.now place result }
 {
     if area.len() < AREA_LENGTH {
-        return Target::ShortArea;
+        return Err(TargetError::ShortArea);
     }
     if PLACES <= place {
-        return Target::NoPlace;
+        return Err(TargetError::NoPlace);
     }
-    let scanned = scan(board, area, 0);
-    let found = scanned.found;
-    let cannot_be = impossible(found);
-    let on = taken(case_at(board, place));
-    if cannot_be {
-        return Target::Impossible;
+    let scanned = scan(board, area, 0).ok_or(TargetError::Impossible)?;
+    if taken(case_at(board, place)) {
+        return Ok(Target::Taken);
     }
-    if on {
-        return Target::Taken;
-    }
-    Target::Empty(found)
+    Ok(Target::Empty(scanned.actions))
 }
