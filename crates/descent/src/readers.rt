@@ -16,21 +16,19 @@ fn read_number(text: &[u8], p: u64) -> NumberRead
     requires { Sane text.now (progress_of p) }
     ensures { ParsesNumber text.now (progress_of p) (progress_of result.progress) result.number }
 {
-    let Taken::Word(token, behind) = take_word(text, p) else {
-        return NumberRead {
-            progress: stuck(p, Category::Number),
-            number: 0,
-        };
+    let missing = NumberRead {
+        progress: stuck(p, Category::Number),
+        number: 0,
+    };
+    let Some(Taken { token, behind }) = take_word(text, p) else {
+        return missing;
     };
     match token {
         Token::Number(number) => NumberRead {
             progress: behind,
             number,
         },
-        _ => NumberRead {
-            progress: stuck(p, Category::Number),
-            number: 0,
-        },
+        _ => missing,
     }
 }
 
@@ -39,7 +37,13 @@ pub fn read_formula(text: &[u8], p: u64, out: &mut [u8; NODE_ROOM]) -> u64
     requires { CanRead text.now (progress_of p) out.old }
     ensures { Parses Formula text.now (progress_of p) out.old (progress_of result) out.new }
 {
-    let Taken::Word(token, parts) = take_word(text, p) else {
+    let Some(
+        Taken {
+            token,
+            behind: parts,
+        },
+    ) = take_word(text, p)
+    else {
         return stuck(p, Category::Formula);
     };
     match token {
@@ -70,7 +74,13 @@ pub fn read_watched(text: &[u8], p: u64, out: &mut [u8; NODE_ROOM]) -> u64
     requires { CanRead text.now (progress_of p) out.old }
     ensures { Parses Watched text.now (progress_of p) out.old (progress_of result) out.new }
 {
-    let Taken::Word(token, parts) = take_word(text, p) else {
+    let Some(
+        Taken {
+            token,
+            behind: parts,
+        },
+    ) = take_word(text, p)
+    else {
         return stuck(p, Category::Watched);
     };
     match token {
@@ -125,7 +135,13 @@ pub fn read_enforced(text: &[u8], p: u64, out: &mut [u8; NODE_ROOM]) -> u64
     requires { CanRead text.now (progress_of p) out.old }
     ensures { Parses Enforced text.now (progress_of p) out.old (progress_of result) out.new }
 {
-    let Taken::Word(token, parts) = take_word(text, p) else {
+    let Some(
+        Taken {
+            token,
+            behind: parts,
+        },
+    ) = take_word(text, p)
+    else {
         return stuck(p, Category::Enforced);
     };
     match token {
@@ -182,10 +198,10 @@ fn ended(text: &[u8], p: u64) -> u64
     requires { Sane text.now (progress_of p) }
     ensures { ParsesEnd text.now (progress_of p) (progress_of result) }
 {
-    let Taken::Word(_, _) = take_word(text, p) else {
-        return p;
-    };
-    stuck(p, Category::End)
+    match take_word(text, p) {
+        Some(_) => stuck(p, Category::End),
+        None => p,
+    }
 }
 
 // A whole text, from its front.
@@ -194,7 +210,13 @@ pub fn read_rule(text: &[u8], out: &mut [u8; NODE_ROOM]) -> u64
     ensures { ParsesText text.now out.new (progress_of result) × (length out.new ≡ node_room) }
 {
     let front = going(0, 0, 0);
-    let Taken::Word(token, parts) = take_word(text, front) else {
+    let Some(
+        Taken {
+            token,
+            behind: parts,
+        },
+    ) = take_word(text, front)
+    else {
         return stuck(front, Category::Text);
     };
     match token {

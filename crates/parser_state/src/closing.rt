@@ -16,15 +16,8 @@ fn root(p: u64) -> u8
     ensures { result ≡ root_of (progress_of p) }
 {
     match unpack(p) {
-        Progress::Going {
-            at: _,
-            words: _,
-            nodes,
-        } => ((nodes % BYTE + (BYTE - 1)) % BYTE) as u8,
-        Progress::Stuck {
-            words: _,
-            expected: _,
-        } => 0,
+        Progress::Going { nodes, .. } => ((nodes % BYTE + (BYTE - 1)) % BYTE) as u8,
+        Progress::Stuck { .. } => 0,
     }
 }
 
@@ -33,12 +26,7 @@ fn close(p: u64, kind: u8, argument: u8, a: u8, b: u8, c: u8, out: &mut [u8; NOD
     requires { Closable (progress_of p) out.old }
     ensures { Closes (five_bytes (kind, argument, a, b, c)) out.old out.new (progress_of p) (progress_of result) }
 {
-    let Progress::Going {
-        at: _,
-        words: _,
-        nodes,
-    } = unpack(p)
-    else {
+    let Progress::Going { nodes, .. } = unpack(p) else {
         return p;
     };
     add_node(kind, argument, a, b, c, nodes, out);

@@ -27,9 +27,9 @@ pub enum Progress {
     },
 }
 
-// The word that comes next, with the progress after it; or there is none, or reading is stuck already.
+// A word that was taken, and the progress after it.
 #[derive(Clone, Copy)]
-pub enum Taken {
-    Word(Token, u64),
-    Nothing,
+pub struct Taken {
+    pub token: Token,
+    pub behind: u64,
 }

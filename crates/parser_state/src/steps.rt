@@ -81,27 +81,23 @@ pub fn going(at: usize, words: usize, nodes: usize) -> u64
 pub fn stuck(p: u64, expected: Category) -> u64
     ensures { progress_of result ≡ stuck_at (progress_of p) expected }
 {
-    let Progress::Going {
-        at: _,
-        words,
-        nodes: _,
-    } = unpack(p)
-    else {
+    let Progress::Going { words, .. } = unpack(p) else {
         return p;
     };
     base::pack(0, words, 0, mark(expected))
 }
 
-// Takes the next word.
-pub fn take_word(text: &[u8], p: u64) -> Taken
+// Takes the next word; there is none where no word is left, or where reading is stuck already.
+pub fn take_word(text: &[u8], p: u64) -> Option<Taken>
     requires { Sane text.now (progress_of p) }
     ensures { Takes text.now (progress_of p) result }
 {
     let Progress::Going { at, words, nodes } = unpack(p) else {
-        return Taken::Nothing;
+        return None;
     };
-    let Some(word) = read_word(text, at) else {
-        return Taken::Nothing;
-    };
-    Taken::Word(word.token, going(word.end, words + 1, nodes))
+    let word = read_word(text, at)?;
+    Some(Taken {
+        token: word.token,
+        behind: going(word.end, words + 1, nodes),
+    })
 }
