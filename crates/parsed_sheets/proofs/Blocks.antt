@@ -1,5 +1,6 @@
 -- Typing the nodes of a sheet part by part: a run of nodes fits, and the last one has its type.
 -- Assumes nothing.
+use Rattle.std.proofs.Common.{Ok}
 use mathlib.Core.Path.{◌≡◌, ap, sym, subst, ◌∙◌}
 use mathlib.Core.Bool.{true}
 use mathlib.Core.List.{List, [], ◌∷◌, ◌++◌}
@@ -16,8 +17,6 @@ use Rattle.syntax.specs.declared.Node.{Node}
 use Rattle.syntax.specs.declared.NodeType.{NodeType}
 use Rattle.syntax.specs.declared.NodeType.TheVariants.{Unused}
 use Rattle.syntax.specs.declared.Sheet.{Sheet}
-use Rattle.syntax.specs.declared.TypedNode.{TypedNode}
-use Rattle.syntax.specs.declared.TypeFound.TheVariants.{Fits}
 use Rattle.reached.specs.Parts.{used_set}
 use Rattle.typing.proofs.Typings.{type-more}
 use Rattle.parsed_sheets.proofs.Bounds.{Found}
@@ -29,22 +28,22 @@ pub record NoSpare (sheet : Sheet) : Type 0 where
 
 module _ (sheet : Sheet) where
   -- The first n nodes have these types.
-  pub record Typed (n : ℕ) (types : List TypedNode) : Type 0 where
+  pub record Typed (n : ℕ) (types : List NodeType) : Type 0 where
     pub all : type_nodes (used_set sheet) sheet.nodes n ≡ typed types
     pub sized : length types ≡ 64
 
   -- Nodes l from n on fit behind nodes of some types: the types before stay, and Has holds of the last one's.
-  pub record Fit (n : ℕ) (l : List Node) (Has : NodeType → Type 0) (types : List TypedNode) : Type 0 where
-    pub after : List TypedNode
+  pub record Fit (n : ℕ) (l : List Node) (Has : NodeType → Type 0) (types : List NodeType) : Type 0 where
+    pub after : List NodeType
     pub typed : Typed (n + length l) after
     pub kept : (i : ℕ) → i < n → type_at after i ≡ type_at types i
     pub has : Has (type_at after (n + length l - 1))
 
   abbrev pub Runs : ℕ → List Node → (NodeType → Type 0) → Type 0
-  Runs n l Has = (types : List TypedNode) → Typed n types → Fit n l Has types
+  Runs n l Has = (types : List NodeType) → Typed n types → Fit n l Has types
 
   -- one node that fits
-  pub last : NoSpare sheet → (n : ℕ) (w : Node) {Has : NodeType → Type 0} {types : List TypedNode} → n < sheet.count → node_of sheet n ≡ w
+  pub last : NoSpare sheet → (n : ℕ) (w : Node) {Has : NodeType → Type 0} {types : List NodeType} → n < sheet.count → node_of sheet n ≡ w
       → Typed n types → Found Has (type_node w (type_at types)) → Fit n (w ∷ []) Has types
   last all n w {Has = Has} {types = types} small is t f =
       record {
@@ -53,22 +52,22 @@ module _ (sheet : Sheet) where
             record {
               all =
                   rw (add-one n)
-                  (type-more (used_set sheet) sheet.nodes n types t.all (all.in_use n small) (Fits f.type)
+                  (type-more (used_set sheet) sheet.nodes n types t.all (all.in_use n small) (Ok f.type)
                   (sym (ap (λ (x : Node). type_node x (type_at types)) is ∙ f.fits)));
-              sized = length-set types n (record { of = f.type }) ∙ t.sized;
+              sized = length-set types n f.type ∙ t.sized;
             };
-        kept = λ i h. ap (λ (x : TypedNode). x.of) (get_or-set_other types n i (record { of = f.type }) (record { of = Unused }) (omega arith));
+        kept = λ i h. (get_or-set_other types n i f.type Unused (omega arith));
         has = let z : n + 1 - 1 ≡ n = omega arith in rw z (subst Has (sym newest) f.has);
       }
     where
-      after : List TypedNode
-      after = set types n (record { of = f.type })
+      after : List NodeType
+      after = set types n f.type
 
       newest : type_at after n ≡ f.type
-      newest = ap (λ (x : TypedNode). x.of) (get_or-set_same types n (record { of = f.type }) (record { of = Unused }) (omega (arith, t.sized, all.few)))
+      newest = (get_or-set_same types n f.type Unused (omega (arith, t.sized, all.few)))
 
   -- a part, and then the rest, typed behind it
-  pub behind : (n : ℕ) (a rest : List Node) {HasPart Has : NodeType → Type 0} {types : List TypedNode} → Fit n a HasPart types
+  pub behind : (n : ℕ) (a rest : List Node) {HasPart Has : NodeType → Type 0} {types : List NodeType} → Fit n a HasPart types
       → ((f : Fit n a HasPart types) → Fit (n + length a) rest Has f.after) → Fit n (a ++ rest) Has types
   behind n a rest {HasPart} {Has} {types} f next = whole f (next f)
     where

@@ -1,5 +1,6 @@
 -- Laws of bounds that are at most 60 a node: such a bound fits a sheet of 64 nodes.
 -- Assumes nothing.
+use Rattle.std.proofs.Common.{Ok}
 use mathlib.Core.Path.{◌≡◌, refl, ◌∙◌}
 use mathlib.Core.Bool.{true}
 use Prim.Native.Nat.{ℕ, ◌+◌, ◌*◌, ◌≤◌}
@@ -7,16 +8,12 @@ use native.Mathlib.Omega.{arith}
 use borrow.Author.Tests.{le-leb}
 use Rattle.trace.specs.declared.Mode.{Mode}
 use Rattle.policy.specs.Policy.{Policy as APolicy}
-use Rattle.policy.specs.Typing.{larger, plus, policy_type}
+use Rattle.policy.specs.Typing.{typed, Typing, larger, plus, policy_type}
 use Rattle.policy.specs.declared.Bound.{Bound}
 use Rattle.policy.specs.declared.Bound.TheVariants.{Finite as finite, Unbounded as unbounded}
-use Rattle.policy.specs.declared.Typing.{Typing}
-use Rattle.policy.specs.declared.Typing.TheVariants.{Typed as typed}
-use Rattle.syntax.specs.Types.{typing_of, bound_fits, found}
+use Rattle.syntax.specs.Types.{TypeFound, typing_of, bound_fits, found}
 use Rattle.syntax.specs.declared.NodeType.{NodeType}
 use Rattle.syntax.specs.declared.NodeType.TheVariants.{Policy}
-use Rattle.syntax.specs.declared.TypeFound.{TypeFound}
-use Rattle.syntax.specs.declared.TypeFound.TheVariants.{Fits}
 use Rattle.parsed_sheets.specs.Bounds.{AtMost}
 
 pub low-more : (k : Bound) (x y : ℕ) → x ≤ y → AtMost k x → AtMost k y
@@ -51,7 +48,7 @@ pub record IsPolicy (m : Mode) (p : APolicy) (size : ℕ) (t : NodeType) : Type 
 -- A node fits, with a type of which Has holds.
 pub record Found (Has : NodeType → Type 0) (x : TypeFound) : Type 0 where
   pub type : NodeType
-  pub fits : x ≡ Fits type
+  pub fits : x ≡ Ok type
   pub has : Has type
 
 pub found-policy : {m : Mode} {p : APolicy} {size : ℕ} (s : Typing) (k : Bound) → s ≡ typed m k → policy_type p ≡ typed m k → size ≤ 64 → AtMost k (60 * size)

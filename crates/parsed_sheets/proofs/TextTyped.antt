@@ -1,5 +1,6 @@
 -- Checks 6 and 7 of the sheet of a rule text: neither ever comes. It is sound, of the text's mode, and its policy has a low bound.
 -- Assumes nothing.
+use Rattle.syntax.specs.declared.NodeType.{NodeType}
 use mathlib.Core.Path.{◌≡◌, refl, subst}
 use mathlib.Core.List.{List}
 use Prim.Native.Nat.{ℕ, ◌+◌, ◌*◌, ◌-◌}
@@ -7,13 +8,11 @@ use native.Mathlib.Nat.{zero-add}
 use native.Mathlib.Omega.{arith}
 use lib.ListN.{length}
 use Rattle.trace.specs.declared.Mode.{Mode}
-use Rattle.policy.specs.Typing.{policy_type}
+use Rattle.policy.specs.Typing.{typed as Typed, policy_type}
 use Rattle.policy.specs.declared.Bound.{Bound}
-use Rattle.policy.specs.declared.Typing.TheVariants.{Typed}
 use Rattle.syntax.specs.Types.{type_at}
 use Rattle.typing.specs.Typed.{typed, no_types, type_nodes, sound, judge_sheet}
 use Rattle.syntax.specs.declared.Sheet.{Sheet}
-use Rattle.syntax.specs.declared.TypedNode.{TypedNode}
 use Rattle.reached.specs.Parts.{used_set}
 use Rattle.grammar.specs.Words.{Word}
 use Rattle.grammar.specs.Grammar.{TextRule, Reads}
@@ -46,7 +45,7 @@ module _ (actions : List ℕ) {ws : List Word} {rule : TextRule} (reads : Reads 
   last = rw none at fit.has
 
   -- The sheet of a text is sound, of the text's mode.
-  pub text-typed : (types : List TypedNode) × (judge_sheet sheet ≡ sound rule.mode sheet types)
+  pub text-typed : (types : List NodeType) × (judge_sheet sheet ≡ sound rule.mode sheet types)
   text-typed =
       let all : type_nodes (used_set sheet) sheet.nodes size ≡ typed fit.after = rw none at fit.typed.all in
       (fit.after, rw (all, last.is))

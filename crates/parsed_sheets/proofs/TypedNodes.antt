@@ -1,5 +1,6 @@
 -- The nodes of a reading have types, of the mode that its category says: kind by kind.
 -- Assumes nothing.
+use Rattle.std.proofs.Common.{Ok}
 use mathlib.Core.Path.{◌≡◌, refl}
 use mathlib.Core.List.{List, [], ◌∷◌}
 use Prim.Native.Nat.{ℕ, ◌+◌, ◌≤◌}
@@ -7,14 +8,12 @@ use native.Mathlib.Omega.{arith}
 use borrow.Author.Tests.{le-leb}
 use Rattle.policy.specs.Typing.{alike_typed, type_count, type_not, type_eventually, type_always, type_before-, type_before+, type_after-, type_after+, type_fulfilling, type_ignoring}
 use Rattle.policy.specs.declared.Bound.TheVariants.{Finite as finite}
-use Rattle.syntax.specs.Types.{if_formula, type_node}
+use Rattle.syntax.specs.Types.{TypeFound, if_formula, type_node}
 use Rattle.syntax.specs.declared.Node.{Node}
 use Rattle.syntax.specs.declared.Node.TheVariants.{True, False, Proposition, Negation, Conjunction, Disjunction, Now, Holds, Count, Not, And, Or, Eventually, Always, BeforeMinus, BeforePlus, AfterMinus, AfterPlus, Fulfilling, Ignoring}
 use Rattle.syntax.specs.declared.NodeType.{NodeType}
 use Rattle.syntax.specs.declared.NodeType.TheVariants.{Formula}
 use Rattle.syntax.specs.declared.Sheet.{Sheet}
-use Rattle.syntax.specs.declared.TypeFound.{TypeFound}
-use Rattle.syntax.specs.declared.TypeFound.TheVariants.{Fits}
 use Rattle.grammar.specs.Words.{Word}
 use Rattle.grammar.specs.Grammar.{Reading, Reads, watch, enforce, now-w, count-w, not-w, and-w, or-w, eventually-w, before-w, after-w, ignoring-w, holds-e, not-e, and-e, or-e, always-e, before-e, after-e, fulfilling-e, ignoring-e, true-a, false-a, proposition-a, not_a, and-a, or-a, number}
 use Rattle.grammar.specs.declared.Category.{Category}
@@ -24,7 +23,7 @@ use Rattle.parsed_sheets.proofs.Blocks.{NoSpare, Runs, last}
 use Rattle.parsed_sheets.proofs.Wholes.{TypedAt, one, two, three}
 
 -- an action formula, and what is over one
-a-formula : (x : TypeFound) → x ≡ Fits Formula → Found (λ t. t ≡ Formula) x
+a-formula : (x : TypeFound) → x ≡ Ok Formula → Found (λ t. t ≡ Formula) x
 a-formula x e = record { type = Formula; fits = e; has = refl }
 
 over-formula : {H : NodeType → Type 0} (t : NodeType) (x : TypeFound) → t ≡ Formula → Found H x → Found H (if_formula t x)

@@ -11,7 +11,6 @@ use Rattle.syntax.specs.declared.Node.{Node}
 use Rattle.syntax.specs.declared.NodeType.{NodeType}
 use Rattle.syntax.specs.declared.NodeType.TheVariants.{Formula as FormulaType}
 use Rattle.syntax.specs.declared.Sheet.{Sheet}
-use Rattle.syntax.specs.declared.TypedNode.{TypedNode}
 use Rattle.grammar.specs.Words.{Word}
 use Rattle.grammar.specs.Grammar.{Reading, Reads}
 use Rattle.grammar.specs.Nodes.{over_one, over_two, over_three, nodes_of}
@@ -37,8 +36,8 @@ abbrev pub TypedAt : Sheet → (c : Category) → ℕ → Reading c → Type 0
 TypedAt sheet c n x = Stand sheet n (nodes_of c n x) → n + length (nodes_of c n x) ≤ sheet.count → Runs sheet n (nodes_of c n x) (Has c x (length (nodes_of c n x)))
 
 -- the type of a part stays while the nodes behind it are typed
-still : (sheet : Sheet) (n : ℕ) (c : Category) (x : Reading c) → HasNodes c → {types : List TypedNode}
-    (f : Fit sheet n (nodes_of c n x) (Has c x (length (nodes_of c n x))) types) (after : List TypedNode)
+still : (sheet : Sheet) (n : ℕ) (c : Category) (x : Reading c) → HasNodes c → {types : List NodeType}
+    (f : Fit sheet n (nodes_of c n x) (Has c x (length (nodes_of c n x))) types) (after : List NodeType)
     → ((i : ℕ) → i < n + length (nodes_of c n x) → type_at after i ≡ type_at f.after i) → Has c x (length (nodes_of c n x)) (type_at after (n + length (nodes_of c n x) - 1))
 still sheet n c x h f after kept =
     let s = some-node c h n x in

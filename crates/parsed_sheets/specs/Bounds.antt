@@ -1,10 +1,9 @@
 -- The bound of a rule text's policy. Each node adds 60 at most, so check 7 never comes (`text-typed`, proofs/TextTyped.antt).
 -- Assumes nothing.
 use Rattle.std.specs.Prelude.{◌≡◌, ℕ, ◌*◌, ◌≤◌, length}
-use Rattle.policy.specs.Typing.{policy_type}
+use Rattle.policy.specs.Typing.{typed, policy_type}
 use Rattle.policy.specs.declared.Bound.{Bound}
 use Rattle.policy.specs.declared.Bound.TheVariants.{Finite as finite, Unbounded as unbounded}
-use Rattle.policy.specs.declared.Typing.TheVariants.{Typed as typed}
 use Rattle.grammar.specs.Grammar.{TextRule}
 use Rattle.grammar.specs.Nodes.{policy_nodes}
 

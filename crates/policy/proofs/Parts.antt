@@ -3,7 +3,8 @@
 use mathlib.Core.Path.{◌≡◌, refl}
 use Prim.Native.Nat.{ℕ}
 use Rattle.policy.specs.Policy.{Policy, now, holds-first, count, not-p, and-p, or-p, eventually, always, before-, before+, after-, after+, fulfilling, ignoring}
-use Rattle.policy.specs.Typing.{watched, enforced, Typing, typed, untyped, policy_type}
+use Rattle.std.proofs.Common.{None}
+use Rattle.policy.specs.Typing.{watched, enforced, Typing, typed, policy_type}
 use Rattle.policy.specs.Rule.{Rule, opening-r, count-r, same-r, both_r, either_r, copied-r, before-r, after-r, fulfilling-r, ignoring-r, on_parts, on_watched, rule_of}
 use Rattle.policy.specs.Parts.{AllParts, Positive}
 
@@ -37,12 +38,12 @@ positive-on f (ignoring-r hit a) p = p
 on-watched : {P : Type 0} (Q : P → Type 0) (a b : P) (s : Typing) → Q a → Q b → AllParts Q (on_watched s (both_r a b) (either_r a b))
 on-watched Q a b (typed watched k) p q = (p, q)
 on-watched Q a b (typed enforced k) p q = (p, q)
-on-watched Q a b untyped p q = (p, q)
+on-watched Q a b None p q = (p, q)
 
 on-enforced : {P : Type 0} (Q : P → Type 0) (a b : P) (s : Typing) → Q a → Q b → AllParts Q (on_watched s (either_r a b) (both_r a b))
 on-enforced Q a b (typed watched k) p q = (p, q)
 on-enforced Q a b (typed enforced k) p q = (p, q)
-on-enforced Q a b untyped p q = (p, q)
+on-enforced Q a b None p q = (p, q)
 
 -- induction over policies, by their rules
 pub policy-ind : (propositions : ℕ → ℕ) (Q : Policy → Type 0) → ((p : Policy) → AllParts Q (rule_of propositions p) → Q p) → (p : Policy) → Q p

@@ -1,7 +1,7 @@
 -- The operators in which the meanings are said: first action, suffixes, first fulfilment, up to it, what follows it, without some actions.
 -- P is a property of sequences, as 'satisfies a'. proofs/Operators.antt says each in plain quantifiers.
 -- Assumes nothing.
-use Rattle.std.specs.Prelude.{Bool, true, false, cond, ◌&&◌, ◌||◌, List, [], ◌∷◌, ℕ, suc, take, drop}
+use Rattle.std.specs.Prelude.{Bool, cond, ◌&&◌, ◌||◌, List, [], ◌∷◌, ℕ, suc, take, drop}
 use Rattle.std.proofs.Math.Option.{Option, none, some}
 
 -- a property of sequences

@@ -2,12 +2,12 @@
 -- Now (not f); Not a as a; And of watched and Or of enforced parts where both trip, the other two where either does; Eventually and
 -- Always where a copy of the part begun at some suffix trips; the two Befores, and the two Afters, by one rule each.
 -- Assumes nothing.
-use Rattle.std.specs.Prelude.{Bool, true, false, cond, not, ◌&&◌, ◌||◌, List, [], ◌∷◌, ℕ, leb, length, drop}
+use Rattle.std.specs.Prelude.{None, Bool, false, cond, not, ◌&&◌, ◌||◌, ℕ, leb, length, drop}
 use Rattle.std.proofs.Math.Option.{Option, none, some}
-use Rattle.policy.specs.Formula.{Formula, holds}
+use Rattle.policy.specs.Formula.{holds}
 use Rattle.policy.specs.Operators.{Property, first_action, some_suffix, first, up_to, following, without}
 use Rattle.policy.specs.Policy.{Policy, now, holds-first, count, not-p, and-p, or-p, eventually, always, before-, before+, after-, after+, fulfilling, ignoring}
-use Rattle.policy.specs.Typing.{Mode, watched, enforced, Typing, typed, untyped, policy_type}
+use Rattle.policy.specs.Typing.{watched, enforced, Typing, typed, policy_type}
 
 -- A rule over parts P: what a part is, a policy, a property of sequences or a machine, is left open. `hit` says which actions satisfy a formula.
 pub data Rule (P : Type 0) : Type 0 where
@@ -58,7 +58,7 @@ rule_trips (ignoring-r hit a) w = a (without hit w)
 abbrev pub on_watched : {P : Type 0} → Typing → Rule P → Rule P → Rule P
 on_watched (typed watched k) r s = r
 on_watched (typed enforced k) r s = s
-on_watched untyped r s = r
+on_watched None r s = r
 
 -- The rule of each kind, over its parts. And, Or go by the type of their parts.
 abbrev pub rule_of : (ℕ → ℕ) → Policy → Rule Policy

@@ -1,15 +1,19 @@
 -- Types and bounds of policies (docs/FORMATS.md, "Policies", columns 'type' and 'bound'; Xu and Fong, figure 4).
 -- Assumes nothing.
-use Rattle.std.specs.Prelude.{Bool, cond, not, ℕ, ◌+◌, max, leb}
+use Rattle.std.specs.Prelude.{Bool, cond, not, Option, Some, None, ℕ, ◌+◌, max, leb}
 -- watched (Xu and Fong's mon): trips when it becomes satisfied; enforced (enf): trips when it becomes violated
 pub use Rattle.trace.specs.declared.Mode.{Mode}
 pub use Rattle.trace.specs.declared.Mode.TheVariants.{Watched as watched, Enforced as enforced}
 pub use Rattle.policy.specs.declared.Bound.{Bound}
 pub use Rattle.policy.specs.declared.Bound.TheVariants.{Finite as finite, Unbounded as unbounded}
--- the type of a policy, or none: figure 4 has no rule for it
-pub use Rattle.policy.specs.declared.Typing.{Typing}
-pub use Rattle.policy.specs.declared.Typing.TheVariants.{Typed as typed, Untyped as untyped}
 use Rattle.policy.specs.Policy.{Policy, now, holds-first, count, not-p, and-p, or-p, eventually, always, before-, before+, after-, after+, fulfilling, ignoring}
+
+-- the type of a policy, or none: figure 4 has no rule for it
+abbrev pub Typing : Type 0
+Typing = Option (Mode × Bound)
+
+pattern abbrev pub typed : Mode → Bound → Typing
+typed m k = Some (m, k)
 
 -- a largest or sum with an unbounded one is unbounded
 abbrev pub larger : Bound → Bound → Bound
@@ -29,17 +33,17 @@ other enforced = watched
 -- the typing of a whole whose part has a type; `if_watched` and `if_enforced` ask for that type
 abbrev pub if_typed : Typing → (Mode → Bound → Typing) → Typing
 if_typed (typed m k) f = f m k
-if_typed untyped f = untyped
+if_typed None f = None
 
 abbrev pub on_mode : Mode → Typing → Typing → Typing
 on_mode watched s t = s
 on_mode enforced s t = t
 
 abbrev pub if_watched : Typing → (Bound → Typing) → Typing
-if_watched t f = if_typed t (λ m k. on_mode m (f k) untyped)
+if_watched t f = if_typed t (λ m k. on_mode m (f k) None)
 
 abbrev pub if_enforced : Typing → (Bound → Typing) → Typing
-if_enforced t f = if_typed t (λ m k. on_mode m untyped (f k))
+if_enforced t f = if_typed t (λ m k. on_mode m None (f k))
 
 -- both parts of one type, which the whole keeps, with the larger bound
 abbrev pub alike_typed : Typing → Typing → Typing
@@ -54,7 +58,7 @@ type_holds = typed enforced (finite 1)
 
 -- a count of none would be satisfied at the empty sequence
 abbrev pub type_count : ℕ → Typing
-type_count k = cond (leb 1 k) (typed watched (finite k)) untyped
+type_count k = cond (leb 1 k) (typed watched (finite k)) None
 
 abbrev pub type_not : Typing → Typing
 type_not s = if_typed s (λ m k. typed (other m) k)

@@ -2,11 +2,11 @@
 -- A part is a machine with states 0, 1, .. (the rows of its table) that starts at 0. A remembered value is a state of the product or
 -- subset construction before minimisation.
 -- Assumes nothing.
-use Rattle.std.specs.Prelude.{Bool, true, false, cond, List, [], ◌∷◌, ℕ, zero, suc, ◌+◌, ◌^◌, leb, length, drop}
+use Rattle.std.specs.Prelude.{Bool, cond, List, [], ◌∷◌, ℕ, zero, suc, ◌+◌, ◌^◌, leb, length, drop}
 use Rattle.std.proofs.Math.Option.{Option, none, some}
 use Rattle.std.specs.Int.Bits.{bit_or}
 use Rattle.base.specs.Sets.{bit}
-use Rattle.trace.specs.Trace.{Move, trip, go, Step, after, run, tripped, trips}
+use Rattle.trace.specs.Trace.{Move, trip, go, Step, after, run, trips}
 use Rattle.policy.specs.Operators.{Property, first, without}
 use Rattle.policy.specs.Rule.{Rule, opening-r, count-r, same-r, both_r, either_r, copied-r, before-r, after-r, fulfilling-r, ignoring-r}
 

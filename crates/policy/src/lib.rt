@@ -10,9 +10,5 @@ pub enum Bound {
     Unbounded,
 }
 
-// The type of a policy, or that it has none.
-#[derive(Clone, Copy)]
-pub enum Typing {
-    Typed(Mode, Bound),
-    Untyped,
-}
+// The type of a policy: its mode and its bound.
+pub type PolicyType = (Mode, Bound);

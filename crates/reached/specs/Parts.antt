@@ -6,7 +6,6 @@ use Rattle.std.specs.Int.Bits.{bit_or}
 use Rattle.syntax.specs.Formed.{PartsBelow}
 use Rattle.syntax.specs.Nodes.{node_at, node_of}
 use Rattle.syntax.specs.Shape.{Conjunction, Disjunction, And, Or, BeforeMinus, BeforePlus, AfterMinus, AfterPlus, Ignoring, Shape, leaf, unary, binary, ternary, shape_of}
-use Rattle.syntax.specs.declared.ListedNode.{ListedNode}
 use Rattle.syntax.specs.declared.Node.{Node}
 use Rattle.syntax.specs.declared.Sheet.{Sheet}
 use Rattle.reached.specs.Reached.{Reached, reached_set}
@@ -79,16 +78,16 @@ set_of_parts (OnePart a) = 2 ^ a
 set_of_parts (TwoParts a b) = bit_or (2 ^ a) (2 ^ b)
 set_of_parts (ThreeParts a b c) = bit_or (2 ^ a) (bit_or (2 ^ b) (2 ^ c))
 
-abbrev pub part_sets : Through → List ListedNode → ℕ → ℕ
+abbrev pub part_sets : Through → List Node → ℕ → ℕ
 part_sets through nodes n = set_of_parts (parts_by through (node_at nodes n))
 
 -- The set of the used nodes of a sheet, and of those that are reached from one through And alone.
 abbrev pub used_set : Sheet → ℕ
 used_set sheet = reached_set (part_sets EveryKind sheet.nodes) (sheet.count - 1)
 
-abbrev pub and_set : List ListedNode → (from : ℕ) → ℕ
+abbrev pub and_set : List Node → (from : ℕ) → ℕ
 and_set nodes from = reached_set (part_sets AndAlone nodes) from
 
 -- Parts stand before their node.
-abbrev pub PartsEarlier : List ListedNode → (from : ℕ) → Type 0
+abbrev pub PartsEarlier : List Node → (from : ℕ) → Type 0
 PartsEarlier nodes from = (n : ℕ) → n ≤ from → PartsBelow n (node_at nodes n)

@@ -6,7 +6,7 @@ ghost use Rattle.reached.specs.Reached.{reached_set};
 ghost use Rattle.reached.specs.Parts.{parts_of, InParts, and_parts, parts_by, set_of_parts, part_sets, and_set, PartsEarlier};
 ghost use Rattle.reached.specs.declared.Through.TheVariants.{EveryKind};
 
-use syntax::{ListedNode, Node};
+use syntax::Node;
 
 // The parts of a node.
 #[derive(Clone, Copy)]
@@ -29,26 +29,23 @@ fn parts_of(node: Node) -> Parts
     ensures { result ≡ parts_of node }
 {
     match node {
-        Node::True => Parts::NoPart,
-        Node::False => Parts::NoPart,
-        Node::Proposition(_) => Parts::NoPart,
-        Node::Negation(a) => Parts::OnePart(a),
-        Node::Conjunction(a, b) => Parts::TwoParts(a, b),
-        Node::Disjunction(a, b) => Parts::TwoParts(a, b),
-        Node::Now(a) => Parts::OnePart(a),
-        Node::Holds(a) => Parts::OnePart(a),
-        Node::Count(_) => Parts::NoPart,
-        Node::Not(a) => Parts::OnePart(a),
-        Node::And(a, b) => Parts::TwoParts(a, b),
-        Node::Or(a, b) => Parts::TwoParts(a, b),
-        Node::Eventually(a) => Parts::OnePart(a),
-        Node::Always(a) => Parts::OnePart(a),
-        Node::BeforeMinus(a, b) => Parts::TwoParts(a, b),
-        Node::BeforePlus(a, b) => Parts::TwoParts(a, b),
-        Node::AfterMinus(a, b) => Parts::TwoParts(a, b),
-        Node::AfterPlus(a, b) => Parts::TwoParts(a, b),
+        Node::True | Node::False | Node::Proposition(_) | Node::Count(_) => Parts::NoPart,
+        Node::Negation(a)
+        | Node::Now(a)
+        | Node::Holds(a)
+        | Node::Not(a)
+        | Node::Eventually(a)
+        | Node::Always(a) => Parts::OnePart(a),
+        Node::Conjunction(a, b)
+        | Node::Disjunction(a, b)
+        | Node::And(a, b)
+        | Node::Or(a, b)
+        | Node::BeforeMinus(a, b)
+        | Node::BeforePlus(a, b)
+        | Node::AfterMinus(a, b)
+        | Node::AfterPlus(a, b)
+        | Node::Ignoring(a, b) => Parts::TwoParts(a, b),
         Node::Fulfilling(_, a, b, c) => Parts::ThreeParts(a, b, c),
-        Node::Ignoring(a, b) => Parts::TwoParts(a, b),
     }
 }
 
@@ -57,26 +54,8 @@ fn and_parts(node: Node) -> Parts
     ensures { result ≡ and_parts node }
 {
     match node {
-        Node::True => Parts::NoPart,
-        Node::False => Parts::NoPart,
-        Node::Proposition(_) => Parts::NoPart,
-        Node::Negation(_) => Parts::NoPart,
-        Node::Conjunction(_, _) => Parts::NoPart,
-        Node::Disjunction(_, _) => Parts::NoPart,
-        Node::Now(_) => Parts::NoPart,
-        Node::Holds(_) => Parts::NoPart,
-        Node::Count(_) => Parts::NoPart,
-        Node::Not(_) => Parts::NoPart,
         Node::And(first, second) => Parts::TwoParts(first, second),
-        Node::Or(_, _) => Parts::NoPart,
-        Node::Eventually(_) => Parts::NoPart,
-        Node::Always(_) => Parts::NoPart,
-        Node::BeforeMinus(_, _) => Parts::NoPart,
-        Node::BeforePlus(_, _) => Parts::NoPart,
-        Node::AfterMinus(_, _) => Parts::NoPart,
-        Node::AfterPlus(_, _) => Parts::NoPart,
-        Node::Fulfilling(_, _, _, _) => Parts::NoPart,
-        Node::Ignoring(_, _) => Parts::NoPart,
+        _ => Parts::NoPart,
     }
 }
 
@@ -112,26 +91,22 @@ fn set_of_parts(parts: Parts) -> u64
 }
 
 // What is reached from a node, in one pass from that node down.
-fn reached_from(through: Through, nodes: [ListedNode; 64], from: usize) -> u64
+fn reached_from(through: Through, nodes: [Node; 64], from: usize) -> u64
     requires from_bound { from < 64 }
     requires parts_earlier { PartsEarlier nodes from }
     ensures { result ≡ reached_set (part_sets through nodes) from }
 {
     let mut set = 1u64 << from;
-    let mut n = from + 1;
-    while 0 < n {
-        n -= 1;
+    for n in (0..=from).rev() {
         if (set >> n) % 2 == 1 {
-            let listed = nodes[n];
-            let node = listed.node;
-            set = set | set_of_parts(parts_by(through, node));
+            set |= set_of_parts(parts_by(through, nodes[n]));
         }
     }
     set
 }
 
 // The nodes reached from one through And alone.
-pub fn reached_by_and(nodes: [ListedNode; 64], from: usize) -> u64
+pub fn reached_by_and(nodes: [Node; 64], from: usize) -> u64
     requires from_bound { from < 64 }
     requires parts_earlier { PartsEarlier nodes from }
     ensures { result ≡ and_set nodes from }
@@ -140,7 +115,7 @@ pub fn reached_by_and(nodes: [ListedNode; 64], from: usize) -> u64
 }
 
 // The used nodes among the first `count`: the last one, and every part of a used one.
-pub fn used_nodes(nodes: [ListedNode; 64], count: usize) -> u64
+pub fn used_nodes(nodes: [Node; 64], count: usize) -> u64
     requires le_count { (1 ≤ count) × (count ≤ 64) }
     requires parts_earlier { PartsEarlier nodes (count - 1) }
     ensures { result ≡ reached_set (part_sets EveryKind nodes) (count - 1) }

@@ -1,5 +1,7 @@
 -- A formed sheet has one first fault, or one choice of types.
 -- Assumes nothing.
+use Rattle.syntax.specs.declared.TypeError.TheVariants.{TooLong, Unfit}
+use Rattle.std.proofs.Common.{Err, Ok}
 use mathlib.Core.Path.{◌≡◌, refl, sym, ap, ◌∙◌}
 use Prim.Native.Nat.{ℕ, ◌-◌, ◌≤◌}
 use native.Mathlib.Decide.{dec_lt}
@@ -7,13 +9,11 @@ use native.Mathlib.Omega.{arith}
 use Rattle.trace.specs.declared.Mode.{Mode}
 use Rattle.syntax.specs.Formed.{Formed}
 use Rattle.syntax.specs.Nodes.{node_of}
-use Rattle.syntax.specs.Types.{type_node}
+use Rattle.syntax.specs.Types.{TypeFound, type_node}
 use Rattle.syntax.specs.declared.Fault.{Fault}
 use Rattle.syntax.specs.declared.Fault.TheVariants.{WrongTypeAt, BoundAt}
 use Rattle.syntax.specs.declared.NodeType.{NodeType}
 use Rattle.syntax.specs.declared.Sheet.{Sheet}
-use Rattle.syntax.specs.declared.TypeFound.{TypeFound}
-use Rattle.syntax.specs.declared.TypeFound.TheVariants.{Fits, Unfit, TooLong}
 use Rattle.reached.specs.Reached.{itself}
 use Rattle.reached.specs.Parts.{Used}
 use Rattle.reached.proofs.NodeSets.{used-below}
@@ -22,7 +22,7 @@ use Rattle.renumbering.proofs.Types.{types-agree, found-agree}
 
 -- what is found of a node is no type
 abbrev NoType : TypeFound → Type 0
-NoType found = (t : NodeType) → found ≡ Fits t → ⊥
+NoType found = (t : NodeType) → found ≡ Ok t → ⊥
 
 module _ (sheet : Sheet) (formed : Formed sheet) where
   -- a used node that has no type, all used ones before it having theirs
@@ -52,13 +52,13 @@ module _ (sheet : Sheet) (formed : Formed sheet) where
   none_stuck : {A : Type 0} {n : ℕ} {found : TypeFound} {types : ℕ → NodeType} → Stuck n found → TypedBefore sheet types sheet.count → A
   none_stuck s typed = absurd (let h = no-further s typed in let g = used-below sheet formed s.in_use in omega arith)
 
-  unfit-at : {types : ℕ → NodeType} {n : ℕ} → Used sheet n → TypedBefore sheet types n → type_node (node_of sheet n) types ≡ Unfit → Stuck n Unfit
+  unfit-at : {types : ℕ → NodeType} {n : ℕ} → Used sheet n → TypedBefore sheet types n → type_node (node_of sheet n) types ≡ Err Unfit → Stuck n (Err Unfit)
   unfit-at {types} u b e = record { types = types; in_use = u; before = b; is = e; none = λ t d. let z : ◌≡◌ {A = ℕ} 0 1 = cc in omega arith }
 
-  long-at : {types : ℕ → NodeType} {n : ℕ} → Used sheet n → TypedBefore sheet types n → type_node (node_of sheet n) types ≡ TooLong → Stuck n TooLong
+  long-at : {types : ℕ → NodeType} {n : ℕ} → Used sheet n → TypedBefore sheet types n → type_node (node_of sheet n) types ≡ Err TooLong → Stuck n (Err TooLong)
   long-at {types} u b e = record { types = types; in_use = u; before = b; is = e; none = λ t d. let z : ◌≡◌ {A = ℕ} 0 1 = cc in omega arith }
 
-  differ : {A : Type 0} → Unfit ≡ TooLong → A
+  differ : {A : Type 0} → ◌≡◌ {A = TypeFound} (Err Unfit) (Err TooLong) → A
   differ e = absurd (let z : ◌≡◌ {A = ℕ} 0 1 = cc in omega arith)
 
   -- There is one first fault.

@@ -1,5 +1,8 @@
 -- What judging says of a formed sheet: it is faulty exactly at its first fault, and sound exactly where it is well typed.
 -- Assumes nothing.
+use Rattle.syntax.specs.declared.TypeError.TheVariants.{TooLong, Unfit}
+use Rattle.std.proofs.Common.{Err, Ok}
+use Rattle.syntax.specs.declared.Node.{Node}
 use mathlib.Core.Path.{◌≡◌, refl, ap, subst, ◌∙◌}
 use mathlib.Core.Bool.{Bool, true, false, cond}
 use mathlib.Core.List.{List}
@@ -10,16 +13,12 @@ use Rattle.base.specs.Sets.{bit}
 use Rattle.trace.specs.declared.Mode.{Mode}
 use Rattle.syntax.specs.Formed.{Formed}
 use Rattle.syntax.specs.Nodes.{node_at, node_of}
-use Rattle.syntax.specs.Types.{type_at, type_node}
+use Rattle.syntax.specs.Types.{TypeFound, type_at, type_node}
 use Rattle.syntax.specs.declared.Fault.{Fault}
 use Rattle.syntax.specs.declared.Fault.TheVariants.{WrongTypeAt, BoundAt}
-use Rattle.syntax.specs.declared.ListedNode.{ListedNode}
 use Rattle.syntax.specs.declared.NodeType.{NodeType}
 use Rattle.syntax.specs.declared.NodeType.TheVariants.{Unused, Formula, Policy}
 use Rattle.syntax.specs.declared.Sheet.{Sheet}
-use Rattle.syntax.specs.declared.TypedNode.{TypedNode}
-use Rattle.syntax.specs.declared.TypeFound.{TypeFound}
-use Rattle.syntax.specs.declared.TypeFound.TheVariants.{Fits, Unfit, TooLong}
 use Rattle.reached.specs.Reached.{itself}
 use Rattle.reached.specs.Parts.{Used, used_set}
 use Rattle.reached.proofs.NodeSets.{used-exactly, used-below}
@@ -29,24 +28,24 @@ use Rattle.renumbering.specs.FirstFault.{TypedBefore, FirstFault, unfit, too_lon
 use Rattle.renumbering.proofs.Types.{fits-typed}
 use Rattle.renumbering.proofs.FirstFault.{one-fault, one-mode, no-fault}
 
-not-mistyped : {A : Type 0} {f : Fault} {before after : List TypedNode} → typed before ≡ mistyped f after → A
+not-mistyped : {A : Type 0} {f : Fault} {before after : List NodeType} → typed before ≡ mistyped f after → A
 not-mistyped e = absurd (let z : ◌≡◌ {A = ℕ} 0 1 = cc in omega arith)
 
-module _ (used : ℕ) (nodes : List ListedNode) where
+module _ (used : ℕ) (nodes : List Node) where
   -- a used one of the first n nodes has a fault, and those before it their types
-  record FaultAt (n : ℕ) (f : Fault) (after : List TypedNode) : Type 0 where
+  record FaultAt (n : ℕ) (f : Fault) (after : List NodeType) : Type 0 where
     at : ℕ
     below : at < n
     in_use : bit used at ≡ true
-    types : List TypedNode
+    types : List NodeType
     before : type_nodes used nodes at ≡ typed types
     next : type_next at types (type_node (node_at nodes at) (type_at types)) ≡ mistyped f after
 
-  fault-from : (n : ℕ) (f : Fault) (after : List TypedNode) → type_nodes used nodes n ≡ mistyped f after → FaultAt n f after
+  fault-from : (n : ℕ) (f : Fault) (after : List NodeType) → type_nodes used nodes n ≡ mistyped f after → FaultAt n f after
   fault-from zero f after e = not-mistyped e
   fault-from (suc n) f after e = by (fault-from n f after) (type_nodes used nodes n) refl e
     where
-      own : (types : List TypedNode) → type_nodes used nodes n ≡ typed types → (b : Bool) → bit used n ≡ b
+      own : (types : List NodeType) → type_nodes used nodes n ≡ typed types → (b : Bool) → bit used n ≡ b
           → cond b (type_next n types (type_node (node_at nodes n) (type_at types))) (typed types) ≡ mistyped f after → FaultAt (suc n) f after
       own types p true u e = record { at = n; below = omega arith; in_use = u; types = types; before = p; next = e }
       own types p false u e = not-mistyped e
@@ -62,16 +61,16 @@ module _ (used : ℕ) (nodes : List ListedNode) where
 -- A judgement of a sheet, in plain statements.
 pub data Told (sheet : Sheet) : Judgement → Type 0 where
   at-fault : (f : Fault) → FirstFault sheet f → Told sheet (faulty f)
-  no-faults : (mode : Mode) (types : List TypedNode) → NoFault mode sheet (type_at types) → Told sheet (sound mode sheet types)
+  no-faults : (mode : Mode) (types : List NodeType) → NoFault mode sheet (type_at types) → Told sheet (sound mode sheet types)
 
 module _ (sheet : Sheet) (formed : Formed sheet) where
-  typed-before : (n : ℕ) → n ≤ sheet.count → (types : List TypedNode) → type_nodes (used_set sheet) sheet.nodes n ≡ typed types
+  typed-before : (n : ℕ) → n ≤ sheet.count → (types : List NodeType) → type_nodes (used_set sheet) sheet.nodes n ≡ typed types
       → TypedBefore sheet (type_at types) n
   typed-before n h types e i g u =
       (types_of (used_set sheet) sheet.nodes n (omega (arith, formed.few-nodes)) (λ k l. formed.parts k (omega arith)) types e).each i g
       ((used-exactly sheet formed i).1 u)
 
-  first-fault : {f : Fault} {after : List TypedNode} → FaultAt (used_set sheet) sheet.nodes sheet.count f after → FirstFault sheet f
+  first-fault : {f : Fault} {after : List NodeType} → FaultAt (used_set sheet) sheet.nodes sheet.count f after → FirstFault sheet f
   first-fault {f} {after} a = by (type_node (node_of sheet a.at) (type_at a.types)) refl a.next
     where
       in_use : Used sheet a.at
@@ -81,18 +80,18 @@ module _ (sheet : Sheet) (formed : Formed sheet) where
       before = typed-before a.at (omega (arith, a.below)) a.types a.before
 
       by : (t : TypeFound) → type_node (node_of sheet a.at) (type_at a.types) ≡ t → type_next a.at a.types t ≡ mistyped f after → FirstFault sheet f
-      by (Fits t) q e = not-mistyped e
-      by Unfit q e = let same : WrongTypeAt a.at ≡ f = cc in subst (FirstFault sheet) same (unfit (type_at a.types) a.at in_use before q)
-      by TooLong q e = let same : BoundAt a.at ≡ f = cc in subst (FirstFault sheet) same (too_long (type_at a.types) a.at in_use before q)
+      by (Ok t) q e = not-mistyped e
+      by (Err Unfit) q e = let same : WrongTypeAt a.at ≡ f = cc in subst (FirstFault sheet) same (unfit (type_at a.types) a.at in_use before q)
+      by (Err TooLong) q e = let same : BoundAt a.at ≡ f = cc in subst (FirstFault sheet) same (too_long (type_at a.types) a.at in_use before q)
 
   -- Judging a sheet says one of the two.
   pub told : Told sheet (judge_sheet sheet)
   told = by (type_nodes (used_set sheet) sheet.nodes sheet.count) refl
     where
-      last : (types : List TypedNode) → TypedBefore sheet (type_at types) sheet.count → (t : NodeType) → type_at types (sheet.count - 1) ≡ t
+      last : (types : List NodeType) → TypedBefore sheet (type_at types) sheet.count → (t : NodeType) → type_at types (sheet.count - 1) ≡ t
           → Told sheet (judge_last sheet types t)
       last types each Unused e =
-          absurd (fits-typed (type_at types) (node_of sheet (sheet.count - 1)) (each (sheet.count - 1) (used-below sheet formed itself) itself ∙ ap Fits e))
+          absurd (fits-typed (type_at types) (node_of sheet (sheet.count - 1)) (each (sheet.count - 1) (used-below sheet formed itself) itself ∙ ap Ok e))
       last types each Formula e = at-fault (WrongTypeAt (sheet.count - 1)) (no-policy (type_at types) each e)
       last types each (Policy m k) e = no-faults m types (record { each = each; bound = k; last = e })
 
@@ -114,16 +113,16 @@ module _ (sheet : Sheet) (formed : Formed sheet) where
 
   -- It is judged sound of a mode exactly where its used nodes have types and its last one is a policy of the mode.
   pub sound-exactly : (mode : Mode)
-      → ((types : List TypedNode) × (judge_sheet sheet ≡ sound mode sheet types)) ↔ ((types : ℕ → NodeType) × NoFault mode sheet types)
+      → ((types : List NodeType) × (judge_sheet sheet ≡ sound mode sheet types)) ↔ ((types : ℕ → NodeType) × NoFault mode sheet types)
   sound-exactly mode = (λ s. (type_at s.0, to s.0 told s.1), λ w. from told w.1)
     where
-      to : (types : List TypedNode) {j : Judgement} → Told sheet j → j ≡ sound mode sheet types → NoFault mode sheet (type_at types)
+      to : (types : List NodeType) {j : Judgement} → Told sheet j → j ≡ sound mode sheet types → NoFault mode sheet (type_at types)
       to types (at-fault g p) e = absurd (let z : ◌≡◌ {A = ℕ} 0 1 = cc in omega arith)
       to types (no-faults m all w) e =
           let alike : all ≡ types = cc in
           let also : m ≡ mode = cc in
-          subst (λ (k : Mode). NoFault k sheet (type_at types)) also (subst (λ (l : List TypedNode). NoFault m sheet (type_at l)) alike w)
+          subst (λ (k : Mode). NoFault k sheet (type_at types)) also (subst (λ (l : List NodeType). NoFault m sheet (type_at l)) alike w)
 
-      from : {j : Judgement} {types : ℕ → NodeType} → Told sheet j → NoFault mode sheet types → (l : List TypedNode) × (j ≡ sound mode sheet l)
+      from : {j : Judgement} {types : ℕ → NodeType} → Told sheet j → NoFault mode sheet types → (l : List NodeType) × (j ≡ sound mode sheet l)
       from (at-fault g p) w = no-fault sheet formed w p
       from (no-faults m all w') w = (all, ap (λ (k : Mode). sound k sheet all) (one-mode sheet formed w' w))

@@ -1,5 +1,6 @@
 -- An example: the sheet of Count 2, and the same with two leftovers in front, one of them ill typed. They have the same used nodes.
 -- Assumes nothing.
+use Rattle.syntax.specs.declared.NodeType.{NodeType}
 use mathlib.Core.Path.{◌≡◌, refl, sym, subst}
 use mathlib.Core.Bool.{true}
 use mathlib.Core.List.{List, ◌∷◌}
@@ -14,7 +15,6 @@ use Rattle.syntax.specs.Shape.{shape_of, with_parts}
 use Rattle.syntax.specs.Formed.{PartsBelow, ArgumentFits, Formed}
 use Rattle.syntax.specs.declared.Node.TheVariants.{True, Count, Always}
 use Rattle.syntax.specs.declared.Sheet.{Sheet}
-use Rattle.syntax.specs.declared.TypedNode.{TypedNode}
 use Rattle.reached.specs.Reached.{itself}
 use Rattle.reached.specs.Parts.{Used, used_set}
 use Rattle.reached.proofs.NodeSets.{used-exactly, used-below}
@@ -23,7 +23,7 @@ use Rattle.renumbering.specs.SameUsed.{SameUsed}
 
 -- node 0 is the policy
 abbrev pub alone : Sheet
-alone = record { actions = 1; propositions = no_propositions; count = 1; nodes = record { node = Count 2 } ∷ replicate 63 (record { node = True }) }
+alone = record { actions = 1; propositions = no_propositions; count = 1; nodes = Count 2 ∷ replicate 63 True }
 
 -- node 0 is a formula, node 1 an Always of it, which is ill typed, and node 2 the policy
 abbrev pub behind_two : Sheet
@@ -32,7 +32,7 @@ behind_two =
       actions = 1;
       propositions = no_propositions;
       count = 3;
-      nodes = record { node = True } ∷ (record { node = Always 0 } ∷ (record { node = Count 2 } ∷ replicate 61 (record { node = True })));
+      nodes = True ∷ (Always 0 ∷ (Count 2 ∷ replicate 61 True));
     }
 
 alone-formed : Formed alone
@@ -101,5 +101,5 @@ leftover-same =
     }
 
 -- The sheet with the ill-typed leftover passes 6 and 7.
-pub leftover-sound : (types : List TypedNode) × (judge_sheet behind_two ≡ sound Watched behind_two types)
+pub leftover-sound : (types : List NodeType) × (judge_sheet behind_two ≡ sound Watched behind_two types)
 leftover-sound = (_, refl)

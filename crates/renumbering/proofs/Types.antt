@@ -1,22 +1,21 @@
 -- The types of used nodes: what fits has a type, and a sheet has one choice of types.
 -- Assumes nothing.
+use Rattle.syntax.specs.declared.TypeError.TheVariants.{TooLong}
+use Rattle.std.proofs.Common.{None, Err, Ok}
 use mathlib.Core.Path.{◌≡◌, ap}
 use mathlib.Core.Bool.{Bool, true, false, cond}
 use Prim.Native.Nat.{ℕ, zero, suc, ◌≤◌, ◌<◌}
 use native.Mathlib.Nat.{lt-suc_self}
 use native.Mathlib.Omega.{arith}
-use Rattle.policy.specs.declared.Typing.{Typing}
-use Rattle.policy.specs.declared.Typing.TheVariants.{Typed, Untyped}
-use Rattle.policy.specs.Typing.{alike_typed, type_now, type_holds, type_count, type_not, type_eventually, type_always, type_before-, type_before+, type_after-, type_after+, type_fulfilling, type_ignoring}
+use Rattle.policy.specs.Typing.{typed as Typed, Typing, alike_typed, type_now, type_holds, type_count, type_not, type_eventually, type_always, type_before-, type_before+, type_after-, type_after+, type_fulfilling, type_ignoring}
 use Rattle.syntax.specs.Formed.{Formed}
 use Rattle.syntax.specs.Nodes.{node_of}
-use Rattle.syntax.specs.Types.{typing_of, bound_fits, found, type_from, type_node}
+use Rattle.syntax.specs.Types.{TypeFound, typing_of, bound_fits, found, type_from, type_node}
 use Rattle.syntax.specs.declared.Node.{Node}
 use Rattle.syntax.specs.declared.Node.TheVariants.{True, False, Proposition, Negation, Conjunction, Disjunction, Now, Holds, Count, Not, And, Or, Eventually, Always, BeforeMinus, BeforePlus, AfterMinus, AfterPlus, Fulfilling, Ignoring}
 use Rattle.syntax.specs.declared.NodeType.{NodeType}
 use Rattle.syntax.specs.declared.NodeType.TheVariants.{Unused, Formula, Policy}
 use Rattle.syntax.specs.declared.Sheet.{Sheet}
-use Rattle.syntax.specs.declared.TypeFound.TheVariants.{Fits, TooLong}
 use Rattle.syntax.proofs.NodeTypes.{unfit, from-formula}
 use Rattle.reached.specs.Parts.{Used}
 use Rattle.reached.proofs.NodeParts.{over_equal}
@@ -24,22 +23,22 @@ use Rattle.renumbering.specs.FirstFault.{TypedBefore}
 use Rattle.renumbering.proofs.Numbering.{part-used}
 
 -- what fits has a type
-formula-typed : Fits Formula ≡ Fits Unused → ⊥
+formula-typed : ◌≡◌ {A = TypeFound} (Ok Formula) (Ok Unused) → ⊥
 formula-typed e = let z : ◌≡◌ {A = ℕ} 0 1 = cc in omega arith
 
-found-typed : (s : Typing) → found s ≡ Fits Unused → ⊥
+found-typed : (s : Typing) → found s ≡ Ok Unused → ⊥
 found-typed (Typed m k) e = by (bound_fits k) e
   where
-    by : (fit : Bool) → cond fit (Fits (Policy m k)) TooLong ≡ Fits Unused → ⊥
+    by : (fit : Bool) → cond fit (Ok (Policy m k)) (Err TooLong) ≡ Ok Unused → ⊥
     by true e = let z : ◌≡◌ {A = ℕ} 0 1 = cc in omega arith
     by false e = let z : ◌≡◌ {A = ℕ} 0 1 = cc in omega arith
-found-typed Untyped e = unfit e
+found-typed None e = unfit e
 
 module _ (types : ℕ → NodeType) where
   abbrev s : ℕ → Typing
   s i = typing_of (types i)
 
-  pub fits-typed : (node : Node) → type_node node types ≡ Fits Unused → ⊥
+  pub fits-typed : (node : Node) → type_node node types ≡ Ok Unused → ⊥
   fits-typed True e = formula-typed e
   fits-typed False e = formula-typed e
   fits-typed (Proposition p) e = formula-typed e

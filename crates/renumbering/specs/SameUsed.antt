@@ -1,5 +1,6 @@
 -- Two sheets with the same used nodes in the same order, apart from their numbering; and judgements of them that correspond.
 -- Assumes nothing.
+use Rattle.syntax.specs.declared.NodeType.{NodeType}
 use Rattle.std.specs.Prelude.{◌≡◌, List, ℕ, ◌<◌}
 use Rattle.trace.specs.declared.Mode.{Mode}
 use Rattle.syntax.specs.Faults.{number_of, spot_of}
@@ -8,7 +9,6 @@ use Rattle.syntax.specs.Shape.{shape_of, with_parts}
 use Rattle.syntax.specs.Types.{type_at}
 use Rattle.syntax.specs.declared.Fault.{Fault}
 use Rattle.syntax.specs.declared.Sheet.{Sheet}
-use Rattle.syntax.specs.declared.TypedNode.{TypedNode}
 use Rattle.reached.specs.Parts.{Used}
 use Rattle.typing.specs.Typed.{Judgement, faulty, sound}
 
@@ -24,5 +24,5 @@ pub record SameUsed (sheet other : Sheet) : Type 0 where
 -- Judgements that correspond: one refusal number at one node, or one mode with the same types of the used nodes.
 pub data SameJudgement {sheet other : Sheet} (same : SameUsed sheet other) : Judgement → Judgement → Type 0 where
   both-faulty : (f g : Fault) → number_of g ≡ number_of f → spot_of g ≡ same.to (spot_of f) → SameJudgement same (faulty f) (faulty g)
-  both-sound : (mode : Mode) (types types' : List TypedNode) → ((n : ℕ) → Used sheet n → type_at types n ≡ type_at types' (same.to n))
+  both-sound : (mode : Mode) (types types' : List NodeType) → ((n : ℕ) → Used sheet n → type_at types n ≡ type_at types' (same.to n))
       → SameJudgement same (sound mode sheet types) (sound mode other types')

@@ -10,7 +10,6 @@ use Rattle.syntax.specs.declared.Fault.{Fault}
 use Rattle.syntax.specs.declared.NodeType.{NodeType}
 use Rattle.syntax.specs.declared.NodeType.TheVariants.{Unused, Formula, Policy}
 use Rattle.syntax.specs.declared.Sheet.{Sheet}
-use Rattle.syntax.specs.declared.TypedNode.{TypedNode}
 use Rattle.reached.specs.Parts.{used_set}
 use Rattle.typing.specs.Typed.{Typings, mistyped, typed, type_nodes, Judgement, faulty, sound, judge_last, judge_typed, judge_sheet}
 use Rattle.sheet_layout.proofs.Header.{laid}
@@ -21,12 +20,12 @@ use Rattle.sheet_judge.specs.JudgedFrom.{JudgedFrom}
 use Rattle.sheet_judge.specs.Malformed.{MalformedOrRead, malformed, read}
 use Rattle.sheet_judge.proofs.Malformed.{malformed-or-read}
 
-module _ {m : Mode} {sheet : Sheet} {types : List TypedNode} where
+module _ {m : Mode} {sheet : Sheet} {types : List NodeType} where
   not_sound : {A : Type 0} {f : Fault} → faulty f ≡ sound m sheet types → A
   not_sound e = absurd (let z : ◌≡◌ {A = ℕ} 0 1 = cc in omega arith)
 
   -- a sound outcome has the sheet that is judged
-  same-last : (s : Sheet) (t : List TypedNode) (last : NodeType) → judge_last s t last ≡ sound m sheet types → s ≡ sheet
+  same-last : (s : Sheet) (t : List NodeType) (last : NodeType) → judge_last s t last ≡ sound m sheet types → s ≡ sheet
   same-last s t Unused e = not_sound e
   same-last s t Formula e = not_sound e
   same-last s t (Policy m k) e = cc
@@ -39,7 +38,7 @@ module _ (bytes : List ℕ) where
   pub judge-from : {sheet : Sheet} → ReadFrom bytes sheet → judge bytes ≡ judge_sheet sheet
   judge-from r = ap (judge_laid bytes) (laid bytes r.laid) ∙ rw (← r.actions, ← r.count, actions-from bytes r, nodes-from bytes r)
 
-  module _ {m : Mode} {sheet : Sheet} {types : List TypedNode} where
+  module _ {m : Mode} {sheet : Sheet} {types : List NodeType} where
     read-from : {j : Judgement} → MalformedOrRead bytes j → j ≡ sound m sheet types → ReadFrom bytes sheet
     read-from (malformed f x) e = not_sound e
     read-from (read s r) e = subst (ReadFrom bytes) (same-sheet s (type_nodes (used_set s) s.nodes s.count) e) r

@@ -1,5 +1,7 @@
 -- Bytes are judged by the first fault of checks 1 to 5, or a sheet is read from them.
 -- Assumes nothing.
+use Rattle.sheet_reading.specs.declared.NodeError.TheVariants.{WrongField, UnknownKind}
+use Rattle.std.proofs.Common.{Ok, Err}
 use mathlib.Core.Path.{◌≡◌, refl, sym, ap, ◌∙◌}
 use mathlib.Core.Bool.{Bool, true, false, cond}
 use mathlib.Core.List.{List}
@@ -10,13 +12,9 @@ use Rattle.syntax.specs.Nodes.{sheet_of}
 use Rattle.syntax.specs.declared.Fault.{Fault}
 use Rattle.syntax.specs.declared.Fault.TheVariants.{Length, Counts, Areas, UnknownKindAt, WrongFieldAt}
 use Rattle.typing.specs.Typed.{faulty}
-use Rattle.sheet_layout.specs.Layout.{action_count, node_count, actions_at, nodes_at, length_right, counts_right, areas_right, layout_of, WellLaid}
-use Rattle.sheet_layout.specs.declared.Layout.TheVariants.{Laid, Misplaced}
+use Rattle.sheet_layout.specs.Layout.{layout_in, action_count, node_count, length_right, counts_right, areas_right, layout_of, WellLaid}
 use Rattle.sheet_layout.proofs.Header.{laid, from-laid}
-use Rattle.sheet_reading.specs.Reading.{node_read, RightBefore, read_nodes, read_next, read_actions, stopped_at}
-use Rattle.sheet_reading.specs.declared.NodeFields.TheVariants.{Wrong}
-use Rattle.sheet_reading.specs.declared.NodeRead.{NodeRead}
-use Rattle.sheet_reading.specs.declared.NodeRead.TheVariants.{Known, UnknownKind}
+use Rattle.sheet_reading.specs.Reading.{NodeRead, node_read, RightBefore, read_nodes, read_next, read_actions, stopped_at}
 use Rattle.sheet_reading.specs.declared.NodesRead.{NodesRead}
 use Rattle.sheet_reading.proofs.ReadNodes.{stopped-at, ReadTo, all_right, no_kind, no_field, read-to, right-read}
 use Rattle.sheet_reading.proofs.ReadFrom.{read_all}
@@ -25,7 +23,7 @@ use Rattle.sheet_judge.specs.Malformed.{Malformed, wrong-length, wrong-counts, w
 
 module _ (bytes : List ℕ) where
   -- where the areas are found
-  module _ (found : layout_of bytes ≡ Laid (action_count bytes) (node_count bytes) (actions_at bytes) (nodes_at bytes)) where
+  module _ (found : layout_of bytes ≡ Ok (layout_in bytes)) where
     well-laid : WellLaid bytes
     well-laid = (from-laid bytes found).0
 
@@ -37,10 +35,10 @@ module _ (bytes : List ℕ) where
 
   by_layout : (x y z : Bool) → length_right bytes ≡ x → counts_right bytes ≡ y → areas_right bytes ≡ z
       → MalformedOrRead bytes (judge_laid bytes
-      (cond x (cond y (cond z (Laid (action_count bytes) (node_count bytes) (actions_at bytes) (nodes_at bytes)) (Misplaced Areas)) (Misplaced Counts)) (Misplaced Length)))
+      (cond x (cond y (cond z (Ok (layout_in bytes)) (Err Areas)) (Err Counts)) (Err Length)))
   by_layout true true true l c a = by-nodes found (read-to bytes (node_count bytes) (well-laid found).few-nodes)
     where
-      found : layout_of bytes ≡ Laid (action_count bytes) (node_count bytes) (actions_at bytes) (nodes_at bytes)
+      found : layout_of bytes ≡ Ok (layout_in bytes)
       found = rw (l, c, a)
   by_layout true true false l c a = malformed Areas (wrong-areas l c a)
   by_layout true false z l c a = malformed Counts (wrong-counts l c)
@@ -61,8 +59,8 @@ module _ (bytes : List ℕ) where
   malformed-judged (wrong-length l) = rw l
   malformed-judged (wrong-counts l c) = rw (l, c)
   malformed-judged (wrong-areas l c a) = rw (l, c, a)
-  malformed-judged (unknown-kind w n h before e) = stopped w n h before UnknownKind e (UnknownKindAt n) refl
-  malformed-judged (wrong-field w n h before e) = stopped w n h before (Known Wrong) e (WrongFieldAt n) refl
+  malformed-judged (unknown-kind w n h before e) = stopped w n h before (Err UnknownKind) e (UnknownKindAt n) refl
+  malformed-judged (wrong-field w n h before e) = stopped w n h before (Err WrongField) e (WrongFieldAt n) refl
 
 -- Its number is 1 to 5.
 pub malformed-number : {bytes : List ℕ} {f : Fault} → Malformed bytes f → number_of f < 6

@@ -1,5 +1,6 @@
 -- Bytes outside the header and the two areas are not read: sheets that agree there are judged alike.
 -- Assumes nothing.
+use Rattle.std.proofs.Common.{Result, Ok, Err}
 use mathlib.Core.Path.{◌≡◌, refl, ap, ◌∙◌}
 use mathlib.Core.List.{List}
 use Prim.Native.Nat.{ℕ, zero, suc, ◌+◌, ◌*◌, ◌≤◌, ◌<◌}
@@ -8,8 +9,8 @@ use Rattle.base.specs.Word.{word_at}
 use Rattle.sheet_layout.specs.Layout.{action_count, node_count, actions_at, nodes_at, entry_of, field, layout_of, WellLaid, AgreeInAreas}
 use Rattle.sheet_reading.specs.Reading.{node_read, read_nodes, read_actions}
 use Rattle.sheet_judge.specs.Judge.{judge_laid, judge}
+use Rattle.syntax.specs.declared.Fault.{Fault}
 use Rattle.sheet_layout.specs.declared.Layout.{Layout}
-use Rattle.sheet_layout.specs.declared.Layout.TheVariants.{Laid, Misplaced}
 use Rattle.sheet_layout.proofs.Header.{from-laid}
 
 module _ (bytes other : List ℕ) (agree : AgreeInAreas bytes other) where
@@ -42,11 +43,11 @@ module _ (bytes other : List ℕ) (agree : AgreeInAreas bytes other) where
     same_nodes zero h = refl
     same_nodes (suc n) h = rw (same_nodes n (omega arith), same-node n h)
 
-  judged-alike : (l : Layout) → layout_of bytes ≡ l → judge_laid bytes l ≡ judge_laid other l
-  judged-alike (Misplaced f) e = refl
-  judged-alike (Laid actions count p q) e =
+  judged-alike : (l : Result Layout Fault) → layout_of bytes ≡ l → judge_laid bytes l ≡ judge_laid other l
+  judged-alike (Err f) e = refl
+  judged-alike (Ok layout) e =
       let h = from-laid bytes e in
-      rw (same-actions h.0 actions (omega (arith, h.1)), same_nodes h.0 count (omega (arith, h.2)))
+      rw (h.1, same-actions h.0 (action_count bytes) (omega arith), same_nodes h.0 (node_count bytes) (omega arith))
 
   pub unread : judge bytes ≡ judge other
   unread = judged-alike (layout_of bytes) refl ∙ ap (judge_laid other) same_layout

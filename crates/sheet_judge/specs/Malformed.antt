@@ -1,7 +1,8 @@
 -- Checks 1 to 5 in plain statements: the first fault of bytes that hold no sheet.
 -- `malformed-or-read` and `malformed-judged` (proofs/Malformed.antt): bytes are judged by it, or a sheet is read from them.
 -- Assumes nothing.
-use Rattle.std.specs.Prelude.{◌≡◌, true, false, List, ℕ, ◌<◌}
+use Rattle.sheet_reading.specs.declared.NodeError.TheVariants.{WrongField, UnknownKind}
+use Rattle.std.specs.Prelude.{Err, ◌≡◌, true, false, List, ℕ, ◌<◌}
 use Rattle.syntax.specs.declared.Fault.{Fault}
 use Rattle.syntax.specs.declared.Fault.TheVariants.{Length, Counts, Areas, UnknownKindAt, WrongFieldAt}
 use Rattle.syntax.specs.declared.Sheet.{Sheet}
@@ -9,8 +10,6 @@ use Rattle.typing.specs.Typed.{Judgement, faulty, judge_sheet}
 use Rattle.sheet_layout.specs.Layout.{node_count, length_right, counts_right, areas_right, WellLaid}
 use Rattle.sheet_reading.specs.Reading.{node_read, RightBefore}
 use Rattle.sheet_reading.specs.ReadFrom.{ReadFrom}
-use Rattle.sheet_reading.specs.declared.NodeFields.TheVariants.{Wrong}
-use Rattle.sheet_reading.specs.declared.NodeRead.TheVariants.{Known, UnknownKind}
 
 -- The first fault of checks 1 to 5, which are made in this order, 4 and 5 node by node.
 pub data Malformed (bytes : List ℕ) : Fault → Type 0 where
@@ -21,9 +20,9 @@ pub data Malformed (bytes : List ℕ) : Fault → Type 0 where
   -- 3: areas that overlap, or do not lie between the header and the end
   wrong-areas : length_right bytes ≡ true → counts_right bytes ≡ true → areas_right bytes ≡ false → Malformed bytes Areas
   -- 4: a node of no kind
-  unknown-kind : WellLaid bytes → (n : ℕ) → n < node_count bytes → RightBefore bytes n → node_read bytes n ≡ UnknownKind → Malformed bytes (UnknownKindAt n)
+  unknown-kind : WellLaid bytes → (n : ℕ) → n < node_count bytes → RightBefore bytes n → node_read bytes n ≡ Err UnknownKind → Malformed bytes (UnknownKindAt n)
   -- 5: a node with a wrong part, argument or unused field
-  wrong-field : WellLaid bytes → (n : ℕ) → n < node_count bytes → RightBefore bytes n → node_read bytes n ≡ Known Wrong → Malformed bytes (WrongFieldAt n)
+  wrong-field : WellLaid bytes → (n : ℕ) → n < node_count bytes → RightBefore bytes n → node_read bytes n ≡ Err WrongField → Malformed bytes (WrongFieldAt n)
 
 -- Bytes are judged by that fault, or as the sheet that is read from them.
 pub data MalformedOrRead (bytes : List ℕ) : Judgement → Type 0 where

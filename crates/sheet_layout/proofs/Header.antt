@@ -1,6 +1,7 @@
 -- Checks 1 to 3: their tests in plain statements, and the places that they give.
 -- Assumes nothing.
-use mathlib.Core.Path.{◌≡◌, refl}
+use Rattle.std.proofs.Common.{Result, Ok, Err}
+use mathlib.Core.Path.{◌≡◌, refl, sym}
 use mathlib.Core.Bool.{Bool, true, false, ◌&&◌}
 use mathlib.Core.Logic.{⊎_map}
 use mathlib.Core.List.{List}
@@ -10,14 +11,14 @@ use lib.Dec.{leb, eqb}
 use lib.ListN.{length}
 use borrow.Author.Tests.{leb-true, le-leb, eqb-true, eq-eqb}
 use Rattle.base.proofs.Truths.{and-true, both_true, or-true, either_true}
-use Rattle.sheet_layout.specs.Layout.{action_count, node_count, actions_at, nodes_at, actions_end, nodes_end, total, length_right, counts_right, areas_right, behind_header, inside_total, apart, in_range, layout_of, WellLaid, Inside}
-use Rattle.sheet_layout.specs.declared.Layout.TheVariants.{Laid, Misplaced}
+use Rattle.sheet_layout.specs.declared.Layout.{Layout}
+use Rattle.sheet_layout.specs.Layout.{layout_in, action_count, node_count, actions_at, nodes_at, actions_end, nodes_end, total, length_right, counts_right, areas_right, behind_header, inside_total, apart, in_range, layout_of, WellLaid, Inside}
 use Rattle.syntax.specs.declared.Fault.{Fault}
 
 pub long-enough : (bytes : List ℕ) → length_right bytes ≡ true → 9 < length bytes
 long-enough bytes e = leb-true 10 (length bytes) (and-true _ (eqb (total bytes) (length bytes)) e).0
 
-misplaced : {A : Type 0} {f : Fault} {a n p q : ℕ} → Misplaced f ≡ Laid a n p q → A
+misplaced : {A : Type 0} {f : Fault} {l : Layout} → Err f ≡ Ok l → A
 misplaced e = absurd (let z : ◌≡◌ {A = ℕ} 0 1 = cc in omega arith)
 
 module _ (bytes : List ℕ) where
@@ -62,33 +63,30 @@ module _ (bytes : List ℕ) where
       (⊎_map (le-leb (actions_end bytes) (nodes_at bytes)) (le-leb (nodes_end bytes) (actions_at bytes)) w.apart))
 
   -- Checks 1 to 3 pass exactly where the areas are found.
-  pub laid : WellLaid bytes → layout_of bytes ≡ Laid (action_count bytes) (node_count bytes) (actions_at bytes) (nodes_at bytes)
+  pub laid : WellLaid bytes → layout_of bytes ≡ Ok (layout_in bytes)
   laid w = rw (length-right w, counts-right w, areas-right w)
 
-  module _ {a n p q : ℕ} (e : layout_of bytes ≡ Laid a n p q) where
+  module _ {l : Layout} (e : layout_of bytes ≡ Ok l) where
     all_right : (x y z : Bool) → length_right bytes ≡ x → counts_right bytes ≡ y → areas_right bytes ≡ z
-        → WellLaid bytes × (Laid (action_count bytes) (node_count bytes) (actions_at bytes) (nodes_at bytes) ≡ Laid a n p q)
-    all_right true true true l c r = (well-laid l c r, simp (l, c, r) at e)
-    all_right true true false l c r = misplaced (simp (l, c, r) at e)
-    all_right true false true l c r = misplaced (simp (l, c, r) at e)
-    all_right true false false l c r = misplaced (simp (l, c, r) at e)
-    all_right false y z l c r = misplaced (simp l at e)
+        → WellLaid bytes × (layout_in bytes ≡ l)
+    all_right true true true x y z = (well-laid x y z, let same : ◌≡◌ {A = Result Layout Fault} (Ok (layout_in bytes)) (Ok l) = simp (x, y, z) at e in cc)
+    all_right true true false x y z = misplaced (simp (x, y, z) at e)
+    all_right true false true x y z = misplaced (simp (x, y, z) at e)
+    all_right true false false x y z = misplaced (simp (x, y, z) at e)
+    all_right false v w x y z = misplaced (simp x at e)
 
-    pub from-laid : WellLaid bytes × (a ≡ action_count bytes) × (n ≡ node_count bytes) × (p ≡ actions_at bytes) × (q ≡ nodes_at bytes)
-    from-laid =
-        let h = all_right (length_right bytes) (counts_right bytes) (areas_right bytes) refl refl refl in
-        let g = h.1 in
-        (h.0, (cc), (cc), (cc), (cc))
+    pub from-laid : WellLaid bytes × (l ≡ layout_in bytes)
+    from-laid = let h = all_right (length_right bytes) (counts_right bytes) (areas_right bytes) refl refl refl in (h.0, sym h.1)
 
     -- the two areas lie inside the bytes
-    pub actions-within : Inside bytes p 2 a 16
+    pub actions-within : Inside bytes l.actions_at 2 l.actions 16
     actions-within =
         let h = from-laid in
         let w = h.0 in
-        record { few = omega (arith, w.few-actions, h.1); inside = omega (arith, w.actions-inside, w.whole, h.1, h.3) }
+        rw h.1 (record { few = w.few-actions; inside = omega (arith, w.actions-inside, w.whole) })
 
-    pub nodes-within : Inside bytes q 5 n 64
+    pub nodes-within : Inside bytes l.nodes_at 5 l.nodes 64
     nodes-within =
         let h = from-laid in
         let w = h.0 in
-        record { few = omega (arith, w.few-nodes, h.2); inside = omega (arith, w.nodes-inside, w.whole, h.2, h.4) }
+        rw h.1 (record { few = w.few-nodes; inside = omega (arith, w.nodes-inside, w.whole) })

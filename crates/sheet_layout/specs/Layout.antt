@@ -1,10 +1,10 @@
 -- A rule sheet's bytes (docs/FORMATS.md, "The rule sheet"): the header, the two areas, and checks 1 to 3.
 -- Assumes nothing.
-use Rattle.std.specs.Prelude.{◌≡◌, Bool, cond, ◌&&◌, ◌||◌, ◌⊎◌, List, ℕ, ◌+◌, ◌*◌, ◌≤◌, ◌<◌, leb, eqb, length, get_or}
+use Rattle.std.specs.Prelude.{Result, Ok, Err, ◌≡◌, Bool, cond, ◌&&◌, ◌||◌, ◌⊎◌, List, ℕ, ◌+◌, ◌*◌, ◌≤◌, ◌<◌, leb, eqb, length, get_or}
 use Rattle.base.specs.Word.{word_at}
+use Rattle.syntax.specs.declared.Fault.{Fault}
 use Rattle.syntax.specs.declared.Fault.TheVariants.{Length, Counts, Areas}
 use Rattle.sheet_layout.specs.declared.Layout.{Layout}
-use Rattle.sheet_layout.specs.declared.Layout.TheVariants.{Laid, Misplaced}
 
 -- The header, 10 bytes: count of actions, count of nodes, offset of the action list, offset of the node list, total length.
 abbrev pub action_count : List ℕ → ℕ
@@ -59,14 +59,18 @@ entry_of bytes a = word_at bytes (actions_at bytes + 2 * a)
 abbrev pub field : List ℕ → ℕ → ℕ → ℕ
 field bytes n f = get_or bytes (nodes_at bytes + 5 * n + f) 0
 
+-- The layout that the header says.
+abbrev pub layout_in : List ℕ → Layout
+layout_in bytes = record { actions = action_count bytes; nodes = node_count bytes; actions_at = actions_at bytes; nodes_at = nodes_at bytes }
+
 -- Checks 1 to 3: where the areas are, or the first fault.
-abbrev pub layout_of : List ℕ → Layout
+abbrev pub layout_of : List ℕ → Result Layout Fault
 layout_of bytes =
     cond (length_right bytes)
     (cond (counts_right bytes)
-    (cond (areas_right bytes) (Laid (action_count bytes) (node_count bytes) (actions_at bytes) (nodes_at bytes)) (Misplaced Areas))
-    (Misplaced Counts))
-    (Misplaced Length)
+    (cond (areas_right bytes) (Ok (layout_in bytes)) (Err Areas))
+    (Err Counts))
+    (Err Length)
 
 -- The same in plain statements.
 pub record WellLaid (bytes : List ℕ) : Type 0 where

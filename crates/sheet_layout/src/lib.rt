@@ -7,26 +7,20 @@ ghost use Rattle.sheet_layout.specs.Layout.{length_right, counts_right, areas_ri
 use base::word;
 use syntax::Fault;
 
-// Where a sheet's areas are, or the first fault of checks 1 to 3.
+// Where a sheet's areas are: how many actions and nodes it has, and where they are listed.
 #[derive(Clone, Copy)]
-pub enum Layout {
-    Laid {
-        actions: usize,
-        nodes: usize,
-        actions_at: usize,
-        nodes_at: usize,
-    },
-    Misplaced(Fault),
+pub struct Layout {
+    pub actions: usize,
+    pub nodes: usize,
+    pub actions_at: usize,
+    pub nodes_at: usize,
 }
 
 // Check 1.
 fn length_right(bytes: &[u8]) -> bool
     ensures { result ≡ length_right bytes.now }
 {
-    if bytes.len() < 10 {
-        return false;
-    }
-    word(bytes, 8) == bytes.len()
+    10 <= bytes.len() && word(bytes, 8) == bytes.len()
 }
 
 // Check 2.
@@ -36,7 +30,7 @@ fn counts_right(bytes: &[u8]) -> bool
 {
     let actions = word(bytes, 0);
     let nodes = word(bytes, 2);
-    ((1 <= actions) & (actions <= 16)) & ((1 <= nodes) & (nodes <= 64))
+    (1..=16).contains(&actions) && (1..=64).contains(&nodes)
 }
 
 // Check 3.
@@ -49,29 +43,29 @@ fn areas_right(bytes: &[u8]) -> bool
     let nodes_at = word(bytes, 6);
     let nodes_end = nodes_at + 5 * word(bytes, 2);
     let total = word(bytes, 8);
-    let behind = (10 <= actions_at) & (10 <= nodes_at);
-    let inside = (actions_end <= total) & (nodes_end <= total);
-    let apart = (actions_end <= nodes_at) | (nodes_end <= actions_at);
-    behind & inside & apart
+    let behind = 10 <= actions_at && 10 <= nodes_at;
+    let inside = actions_end <= total && nodes_end <= total;
+    let apart = actions_end <= nodes_at || nodes_end <= actions_at;
+    behind && inside && apart
 }
 
 // Where the areas are, or the first fault.
-pub fn find_layout(bytes: &[u8]) -> Layout
+pub fn find_layout(bytes: &[u8]) -> Result<Layout, Fault>
     ensures { result ≡ layout_of bytes.now }
 {
     if !length_right(bytes) {
-        return Layout::Misplaced(Fault::Length);
+        return Err(Fault::Length);
     }
     if !counts_right(bytes) {
-        return Layout::Misplaced(Fault::Counts);
+        return Err(Fault::Counts);
     }
     if !areas_right(bytes) {
-        return Layout::Misplaced(Fault::Areas);
+        return Err(Fault::Areas);
     }
-    Layout::Laid {
+    Ok(Layout {
         actions: word(bytes, 0),
         nodes: word(bytes, 2),
         actions_at: word(bytes, 4),
         nodes_at: word(bytes, 6),
-    }
+    })
 }

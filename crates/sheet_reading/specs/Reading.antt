@@ -1,67 +1,67 @@
 -- Reading a sheet: each node by check 4, its kind, and check 5, its parts, argument and unused fields; and the action list.
 -- Assumes nothing.
-use Rattle.std.specs.Prelude.{◌≡◌, Bool, true, false, cond, ◌&&◌, List, ℕ, zero, suc, ◌<◌, ltb, eqb, set}
+use Rattle.syntax.specs.Faults.{Judged}
+use Rattle.std.specs.Prelude.{Result, Ok, Err, ◌≡◌, Bool, true, false, cond, ◌&&◌, List, ℕ, zero, suc, ◌<◌, ltb, eqb, set}
 use Rattle.syntax.specs.Nodes.{no_nodes, no_propositions}
 use Rattle.syntax.specs.declared.Fault.{Fault}
 use Rattle.syntax.specs.declared.Fault.TheVariants.{UnknownKindAt, WrongFieldAt}
-use Rattle.syntax.specs.declared.Judged.{Judged}
-use Rattle.syntax.specs.declared.Judged.TheVariants.{Sound, Faulty}
-use Rattle.syntax.specs.declared.ListedNode.{ListedNode}
 use Rattle.syntax.specs.declared.Node.{Node}
 use Rattle.syntax.specs.declared.Node.TheVariants.{True, False, Proposition, Negation, Conjunction, Disjunction, Now, Holds, Count, Not, And, Or, Eventually, Always, BeforeMinus, BeforePlus, AfterMinus, AfterPlus, Fulfilling, Ignoring}
 use Rattle.sheet_layout.specs.Layout.{in_range, entry_of, field}
-use Rattle.sheet_reading.specs.declared.NodeFields.{NodeFields}
-use Rattle.sheet_reading.specs.declared.NodeFields.TheVariants.{Right, Wrong}
-use Rattle.sheet_reading.specs.declared.NodeRead.{NodeRead}
-use Rattle.sheet_reading.specs.declared.NodeRead.TheVariants.{Known, UnknownKind}
+use Rattle.sheet_reading.specs.declared.NodeError.{NodeError}
+use Rattle.sheet_reading.specs.declared.NodeError.TheVariants.{UnknownKind, WrongField}
 use Rattle.sheet_reading.specs.declared.NodesRead.{NodesRead}
 
+-- What is read of a node: the node, or that check 4 or 5 fails.
+abbrev pub NodeRead : Type 0
+NodeRead = Result Node NodeError
+
 -- check 5 passes, or not
-abbrev pub given : Bool → Node → NodeFields
-given true node = Right node
-given false node = Wrong
+abbrev pub given : Bool → Node → NodeRead
+given true node = Ok node
+given false node = Err WrongField
 
 -- Parts are node numbers lower than the node's own, n. Fields that a kind does not use are 0.
-abbrev pub no_part : (argument a b c : ℕ) → Node → NodeFields
+abbrev pub no_part : (argument a b c : ℕ) → Node → NodeRead
 no_part argument a b c node = given (eqb argument 0 && (eqb a 0 && (eqb b 0 && eqb c 0))) node
 
 -- the argument alone, from low to high
-abbrev pub argument_only : (low high argument a b c : ℕ) → Node → NodeFields
+abbrev pub argument_only : (low high argument a b c : ℕ) → Node → NodeRead
 argument_only low high argument a b c node = given (in_range low high argument && (eqb a 0 && (eqb b 0 && eqb c 0))) node
 
-abbrev pub one_part : (n argument a b c : ℕ) → Node → NodeFields
+abbrev pub one_part : (n argument a b c : ℕ) → Node → NodeRead
 one_part n argument a b c node = given (eqb argument 0 && (ltb a n && (eqb b 0 && eqb c 0))) node
 
-abbrev pub two_parts : (n argument a b c : ℕ) → Node → NodeFields
+abbrev pub two_parts : (n argument a b c : ℕ) → Node → NodeRead
 two_parts n argument a b c node = given (eqb argument 0 && (ltb a n && (ltb b n && eqb c 0))) node
 
-abbrev pub three_parts : (n argument a b c : ℕ) → Node → NodeFields
+abbrev pub three_parts : (n argument a b c : ℕ) → Node → NodeRead
 three_parts n argument a b c node = given (in_range 1 60 argument && (ltb a n && (ltb b n && ltb c n))) node
 
 -- Check 4: kinds 1 to 6 are action formulas, 10 to 23 policies.
 abbrev pub read_fields : (n kind argument a b c : ℕ) → NodeRead
 read_fields n kind argument a b c =
-    cond (eqb kind 1) (Known (no_part argument a b c True))
-    (cond (eqb kind 2) (Known (no_part argument a b c False))
-    (cond (eqb kind 3) (Known (argument_only 0 15 argument a b c (Proposition argument)))
-    (cond (eqb kind 4) (Known (one_part n argument a b c (Negation a)))
-    (cond (eqb kind 5) (Known (two_parts n argument a b c (Conjunction a b)))
-    (cond (eqb kind 6) (Known (two_parts n argument a b c (Disjunction a b)))
-    (cond (eqb kind 10) (Known (one_part n argument a b c (Now a)))
-    (cond (eqb kind 11) (Known (one_part n argument a b c (Holds a)))
-    (cond (eqb kind 12) (Known (argument_only 1 60 argument a b c (Count argument)))
-    (cond (eqb kind 13) (Known (one_part n argument a b c (Not a)))
-    (cond (eqb kind 14) (Known (two_parts n argument a b c (And a b)))
-    (cond (eqb kind 15) (Known (two_parts n argument a b c (Or a b)))
-    (cond (eqb kind 16) (Known (one_part n argument a b c (Eventually a)))
-    (cond (eqb kind 17) (Known (one_part n argument a b c (Always a)))
-    (cond (eqb kind 18) (Known (two_parts n argument a b c (BeforeMinus a b)))
-    (cond (eqb kind 19) (Known (two_parts n argument a b c (BeforePlus a b)))
-    (cond (eqb kind 20) (Known (two_parts n argument a b c (AfterMinus a b)))
-    (cond (eqb kind 21) (Known (two_parts n argument a b c (AfterPlus a b)))
-    (cond (eqb kind 22) (Known (three_parts n argument a b c (Fulfilling argument a b c)))
-    (cond (eqb kind 23) (Known (two_parts n argument a b c (Ignoring a b)))
-    UnknownKind)))))))))))))))))))
+    cond (eqb kind 1) (no_part argument a b c True)
+    (cond (eqb kind 2) (no_part argument a b c False)
+    (cond (eqb kind 3) (argument_only 0 15 argument a b c (Proposition argument))
+    (cond (eqb kind 4) (one_part n argument a b c (Negation a))
+    (cond (eqb kind 5) (two_parts n argument a b c (Conjunction a b))
+    (cond (eqb kind 6) (two_parts n argument a b c (Disjunction a b))
+    (cond (eqb kind 10) (one_part n argument a b c (Now a))
+    (cond (eqb kind 11) (one_part n argument a b c (Holds a))
+    (cond (eqb kind 12) (argument_only 1 60 argument a b c (Count argument))
+    (cond (eqb kind 13) (one_part n argument a b c (Not a))
+    (cond (eqb kind 14) (two_parts n argument a b c (And a b))
+    (cond (eqb kind 15) (two_parts n argument a b c (Or a b))
+    (cond (eqb kind 16) (one_part n argument a b c (Eventually a))
+    (cond (eqb kind 17) (one_part n argument a b c (Always a))
+    (cond (eqb kind 18) (two_parts n argument a b c (BeforeMinus a b))
+    (cond (eqb kind 19) (two_parts n argument a b c (BeforePlus a b))
+    (cond (eqb kind 20) (two_parts n argument a b c (AfterMinus a b))
+    (cond (eqb kind 21) (two_parts n argument a b c (AfterPlus a b))
+    (cond (eqb kind 22) (three_parts n argument a b c (Fulfilling argument a b c))
+    (cond (eqb kind 23) (two_parts n argument a b c (Ignoring a b))
+    (Err UnknownKind))))))))))))))))))))
 
 -- Node n of a sheet.
 abbrev pub node_read : List ℕ → ℕ → NodeRead
@@ -69,23 +69,23 @@ node_read bytes n = read_fields n (field bytes n 0) (field bytes n 1) (field byt
 
 -- Every node before n passes 4 and 5.
 abbrev pub RightBefore : List ℕ → ℕ → Type 0
-RightBefore bytes n = (i : ℕ) → i < n → (node : Node) × (node_read bytes i ≡ Known (Right node))
+RightBefore bytes n = (i : ℕ) → i < n → (node : Node) × (node_read bytes i ≡ Ok node)
 
 -- The first nodes of a sheet: all of them, or those before the first that fails check 4 or 5, with its fault. Behind them nothing is listed.
-abbrev pub all_read : List ListedNode → NodesRead
-all_read nodes = record { judged = Sound; nodes = nodes }
+abbrev pub all_read : List Node → NodesRead
+all_read nodes = record { judged = Ok tt; nodes = nodes }
 
-abbrev pub stopped_at : List ListedNode → Fault → NodesRead
-stopped_at nodes fault = record { judged = Faulty fault; nodes = nodes }
+abbrev pub stopped_at : List Node → Fault → NodesRead
+stopped_at nodes fault = record { judged = Err fault; nodes = nodes }
 
-abbrev pub read_next : ℕ → List ListedNode → NodeRead → NodesRead
-read_next n nodes (Known (Right node)) = all_read (set nodes n (record { node = node }))
-read_next n nodes (Known Wrong) = stopped_at nodes (WrongFieldAt n)
-read_next n nodes UnknownKind = stopped_at nodes (UnknownKindAt n)
+abbrev pub read_next : ℕ → List Node → NodeRead → NodesRead
+read_next n nodes (Ok node) = all_read (set nodes n node)
+read_next n nodes (Err WrongField) = stopped_at nodes (WrongFieldAt n)
+read_next n nodes (Err UnknownKind) = stopped_at nodes (UnknownKindAt n)
 
-abbrev pub unless_stopped : Judged → NodesRead → (List ListedNode → NodesRead) → NodesRead
-unless_stopped Sound read next = next read.nodes
-unless_stopped (Faulty f) read next = read
+abbrev pub unless_stopped : Judged → NodesRead → (List Node → NodesRead) → NodesRead
+unless_stopped (Ok passed) read next = next read.nodes
+unless_stopped (Err f) read next = read
 
 -- the first n nodes, one after the other
 abbrev pub read_nodes : List ℕ → ℕ → NodesRead

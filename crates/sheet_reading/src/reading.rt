@@ -4,9 +4,9 @@ ghost use Rattle.sheet_layout.specs.Layout.{actions_at, nodes_at, Inside};
 ghost use Rattle.sheet_reading.specs.Reading.{read_nodes, read_actions};
 
 use crate::nodes::read_node;
-use crate::{NodeFields, NodeRead, NodesRead};
+use crate::{NodeError, NodesRead};
 use base::word;
-use syntax::{Fault, Judged, ListedNode, Node};
+use syntax::{Fault, Node};
 
 // The propositions of each action. The list stands at `from`.
 pub fn read_actions(bytes: &[u8], from: usize, actions: usize) -> [u16; 16]
@@ -15,10 +15,8 @@ pub fn read_actions(bytes: &[u8], from: usize, actions: usize) -> [u16; 16]
     ensures { result ≡ read_actions bytes.now actions }
 {
     let mut propositions = [0u16; 16];
-    let mut a = 0;
-    while a < actions {
+    for a in 0..actions {
         propositions[a] = word(bytes, from + 2 * a) as u16;
-        a += 1;
     }
     propositions
 }
@@ -29,27 +27,26 @@ pub fn read_nodes(bytes: &[u8], from: usize, count: usize) -> NodesRead
     requires from_value { 0 < count → from ≡ nodes_at bytes.now }
     ensures { result ≡ read_nodes bytes.now count }
 {
-    let mut nodes = [ListedNode { node: Node::True }; 64];
-    let mut n = 0;
-    while n < count {
-        let read = read_node(bytes, from + 5 * n, n);
-        let NodeRead::Known(fields) = read else {
-            return NodesRead {
-                judged: Judged::Faulty(Fault::UnknownKindAt(n)),
-                nodes,
-            };
-        };
-        let NodeFields::Right(node) = fields else {
-            return NodesRead {
-                judged: Judged::Faulty(Fault::WrongFieldAt(n)),
-                nodes,
-            };
-        };
-        nodes[n] = ListedNode { node };
-        n += 1;
+    let mut nodes = [Node::True; 64];
+    for n in 0..count {
+        match read_node(bytes, from + 5 * n, n) {
+            Ok(node) => nodes[n] = node,
+            Err(NodeError::UnknownKind) => {
+                return NodesRead {
+                    judged: Err(Fault::UnknownKindAt(n)),
+                    nodes,
+                };
+            }
+            Err(NodeError::WrongField) => {
+                return NodesRead {
+                    judged: Err(Fault::WrongFieldAt(n)),
+                    nodes,
+                };
+            }
+        }
     }
     NodesRead {
-        judged: Judged::Sound,
+        judged: Ok(()),
         nodes,
     }
 }

@@ -10,7 +10,6 @@ use lib.Seq.{get_or-append-add}
 use Rattle.base.proofs.Lists.{get_or-blank}
 use Rattle.syntax.specs.Nodes.{node_of, propositions_of}
 use Rattle.syntax.specs.Formed.{Formed}
-use Rattle.syntax.specs.declared.ListedNode.{ListedNode}
 use Rattle.syntax.specs.declared.Node.{Node}
 use Rattle.syntax.specs.declared.Node.TheVariants.{True}
 use Rattle.sheet_writer.specs.Bytes.{Writable}
@@ -40,8 +39,7 @@ module _ (actions : List ℕ) (nodes : List Node) where
 
   pub sheet-nodes : (n : ℕ) → node_of (listed_sheet actions nodes) n ≡ get_or nodes n True
   sheet-nodes n =
-      ap (λ (x : ListedNode). x.node)
-      (get_or-filled 64 (record { node = True }) (listed_nodes nodes) n ∙ get_or-map (λ (n : Node). record { node = n }) nodes n True)
+      (get_or-filled 64 True (listed_nodes nodes) n ∙ get_or-map (λ (n : Node). n) nodes n True)
 
   -- A formed sheet of actions of 16 bits is as reading gives it.
   pub writable : Narrow actions → Formed (listed_sheet actions nodes) → Writable (listed_sheet actions nodes)
@@ -53,7 +51,7 @@ module _ (actions : List ℕ) (nodes : List Node) where
             record {
               sixteen = length-filled 16 0 actions formed.few-actions;
               no-action = λ a h. sheet-propositions a ∙ get_or-eq_default actions 0 h;
-              sixty-four = length-filled {A = ListedNode} 64 (record { node = True }) (listed_nodes nodes) (rw length-map formed.few-nodes);
+              sixty-four = length-filled {A = Node} 64 True (listed_nodes nodes) (rw length-map formed.few-nodes);
               no_node = λ n h. sheet-nodes n ∙ get_or-eq_default nodes True h;
             };
       }

@@ -1,5 +1,6 @@
 -- A formed node is read back from its five bytes.
 -- Assumes nothing.
+use Rattle.std.proofs.Common.{Ok}
 use mathlib.Core.Path.{◌≡◌, refl}
 use Prim.Native.Nat.{ℕ, ◌%◌, ◌≤◌, ◌<◌}
 use native.Mathlib.Nat.{mod-eq_of_lt}
@@ -8,11 +9,8 @@ use borrow.Author.Tests.{lt-ltb, le-leb}
 use Rattle.syntax.specs.Formed.{PartsBelow, ArgumentFits}
 use Rattle.syntax.specs.declared.Node.{Node}
 use Rattle.syntax.specs.declared.Node.TheVariants.{True, False, Proposition, Negation, Conjunction, Disjunction, Now, Holds, Count, Not, And, Or, Eventually, Always, BeforeMinus, BeforePlus, AfterMinus, AfterPlus, Fulfilling, Ignoring}
-use Rattle.sheet_reading.specs.Reading.{one_part, two_parts, read_fields}
+use Rattle.sheet_reading.specs.Reading.{NodeRead, one_part, two_parts, read_fields}
 use Rattle.sheet_writer.specs.Bytes.{FiveFields, fields_of}
-use Rattle.sheet_reading.specs.declared.NodeFields.TheVariants.{Right}
-use Rattle.sheet_reading.specs.declared.NodeRead.{NodeRead}
-use Rattle.sheet_reading.specs.declared.NodeRead.TheVariants.{Known}
 
 -- what is read of the bytes of five fields
 abbrev pub read_back : ℕ → FiveFields → NodeRead
@@ -22,13 +20,13 @@ module _ (n : ℕ) (few : n ≤ 64) where
   low : {a : ℕ} → a < n → a % 256 ≡ a
   low h = mod-eq_of_lt (omega arith)
 
-  one : (node : Node) {a : ℕ} → a < n → one_part n 0 a 0 0 node ≡ Right node
+  one : (node : Node) {a : ℕ} → a < n → one_part n 0 a 0 0 node ≡ Ok node
   one node {a} h = rw (lt-ltb a n h)
 
-  two : (node : Node) {a b : ℕ} → a < n → b < n → two_parts n 0 a b 0 node ≡ Right node
+  two : (node : Node) {a b : ℕ} → a < n → b < n → two_parts n 0 a b 0 node ≡ Ok node
   two node {a} {b} h g = rw (lt-ltb a n h, lt-ltb b n g)
 
-  pub node-back : (node : Node) → PartsBelow n node → ArgumentFits node → read_back n (fields_of node) ≡ Known (Right node)
+  pub node-back : (node : Node) → PartsBelow n node → ArgumentFits node → read_back n (fields_of node) ≡ Ok node
   node-back True p q = refl
   node-back False p q = refl
   node-back (Proposition k) p q = let e : k % 256 ≡ k = mod-eq_of_lt (omega arith) in rw (e, le-leb 0 k (omega arith), le-leb k 15 q)

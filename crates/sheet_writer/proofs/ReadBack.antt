@@ -1,5 +1,6 @@
 -- What is written is read back: the bytes of a sheet hold it, and are judged as it is.
 -- Assumes nothing.
+use Rattle.std.proofs.Common.{Ok}
 use mathlib.Core.Path.{◌≡◌, refl, sym, ◌∙◌}
 use mathlib.Core.Logic.{inl}
 use mathlib.Core.List.{List, ◌++◌}
@@ -18,8 +19,6 @@ use Rattle.sheet_reading.specs.Reading.{node_read, all_read, read_nodes, read_ac
 use Rattle.sheet_reading.specs.ReadFrom.{ReadFrom}
 use Rattle.sheet_judge.specs.Judge.{judge}
 use Rattle.sheet_writer.specs.Bytes.{node_bytes, header_bytes, action_bytes, nodes_bytes, sheet_bytes, Writable}
-use Rattle.sheet_reading.specs.declared.NodeFields.TheVariants.{Right}
-use Rattle.sheet_reading.specs.declared.NodeRead.TheVariants.{Known}
 use Rattle.sheet_reading.proofs.ReadFrom.{actions-from, nodes-from}
 use Rattle.sheet_judge.proofs.JudgedFrom.{judge-from}
 use Rattle.sheet_writer.proofs.Written.{length_front, length-sheet}
@@ -88,7 +87,7 @@ module _ (sheet : Sheet) (w : Writable sheet) where
   entry-back a h =
       sym (rw (entry-byte a 0 (10 + 2 * a) h (omega arith) (omega arith), entry-byte a 1 (10 + 2 * a + 1) h (omega arith) (omega arith)) (word_back (propositions_of sheet a) (w.narrow a h)))
 
-  node-read : (n : ℕ) → n < sheet.count → node_read bytes n ≡ Known (Right (node_of sheet n))
+  node-read : (n : ℕ) → n < sheet.count → node_read bytes n ≡ Ok (node_of sheet n)
   node-read n h =
       let at : (j : ℕ) → j < 5 → field bytes n j ≡ get_or (node_bytes (node_of sheet n)) j 0 = λ j g. node-byte n j (nodes_at bytes + 5 * n + j) h g refl in
       rw (at 0 (omega arith), at 1 (omega arith), at 2 (omega arith), at 3 (omega arith), at 4 (omega arith))

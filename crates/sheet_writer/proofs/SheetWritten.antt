@@ -12,7 +12,6 @@ use Rattle.base.specs.Build.{joined}
 use Rattle.base.specs.Word.{word_bytes}
 use Rattle.base.proofs.Lists.{tail, sets-front}
 use Rattle.syntax.specs.Nodes.{node_at}
-use Rattle.syntax.specs.declared.ListedNode.{ListedNode}
 use Rattle.syntax.specs.declared.Node.{Node}
 use Rattle.syntax.specs.declared.Node.TheVariants.{True}
 use Rattle.sheet_writer.specs.Bytes.{node_bytes, action_bytes, front_bytes, nodes_bytes, all_bytes, sheet_bytes}
@@ -33,7 +32,7 @@ actions-listed (a ∷ actions) more =
     joined-first (length actions) (λ i. word_bytes (get_or (a ∷ actions ++ more) i 0)) ∙ ap (λ (l : List ℕ). word_bytes a ++ l) (actions-listed actions more)
     ∙ sym (joined-first (length actions) (λ i. word_bytes (get_or (a ∷ actions) i 0)))
 
-nodes-listed : (nodes : List Node) (more : List ListedNode) → nodes_bytes (listed_nodes nodes ++ more) (length nodes) ≡ all_bytes nodes
+nodes-listed : (nodes : List Node) (more : List Node) → nodes_bytes (listed_nodes nodes ++ more) (length nodes) ≡ all_bytes nodes
 nodes-listed [] more = refl
 nodes-listed (node ∷ nodes) more =
     joined-first (length nodes) (λ i. node_bytes (node_at (listed_nodes (node ∷ nodes) ++ more) i)) ∙ ap (λ (l : List ℕ). node_bytes node ++ l) (nodes-listed nodes more)
@@ -44,7 +43,7 @@ module _ (actions : List ℕ) (nodes : List Node) where
   sheet-bytes =
       rw (
         actions-listed actions (replicate (16 - length actions) 0),
-        nodes-listed nodes (replicate (64 - length (listed_nodes nodes)) (record { node = True })),
+        nodes-listed nodes (replicate (64 - length (listed_nodes nodes)) True),
       )
 
 -- Bytes stored to the front of an area, and others copied to what is after them.

@@ -1,5 +1,6 @@
 -- The bytes of a sheet: their lengths, an entry more stored after those before, and the action list after the header.
 -- Assumes nothing.
+use Rattle.syntax.specs.declared.Node.{Node}
 use mathlib.Core.Path.{◌≡◌, refl, ◌∙◌}
 use mathlib.Core.List.{List, ◌++◌}
 use Prim.Native.Nat.{ℕ, ◌+◌, ◌*◌}
@@ -11,14 +12,13 @@ use Rattle.base.specs.Word.{word_bytes}
 use Rattle.base.proofs.Joined.{length-joined}
 use Rattle.base.proofs.Lists.{sets_then}
 use Rattle.syntax.specs.Nodes.{node_at}
-use Rattle.syntax.specs.declared.ListedNode.{ListedNode}
 use Rattle.syntax.specs.declared.Sheet.{Sheet}
 use Rattle.sheet_writer.specs.Bytes.{node_bytes, header_bytes, action_bytes, front_bytes, nodes_bytes, sheet_bytes}
 
 length-actions : (propositions : List ℕ) (a : ℕ) → length (action_bytes propositions a) ≡ 2 * a
 length-actions propositions = length-joined 2 (λ a. word_bytes (get_or propositions a 0)) (λ a. refl)
 
-length-nodes : (nodes : List ListedNode) (n : ℕ) → length (nodes_bytes nodes n) ≡ 5 * n
+length-nodes : (nodes : List Node) (n : ℕ) → length (nodes_bytes nodes n) ≡ 5 * n
 length-nodes nodes = length-joined 5 (λ i. node_bytes (node_at nodes i)) (λ i. refl)
 
 pub actions-more : (l : List ℕ) (from : ℕ) (propositions : List ℕ) (a : ℕ)

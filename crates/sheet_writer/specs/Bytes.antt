@@ -6,7 +6,6 @@ use Rattle.base.specs.Build.{joined}
 use Rattle.base.specs.Word.{word_bytes}
 use Rattle.syntax.specs.Nodes.{node_at, propositions_of}
 use Rattle.syntax.specs.Formed.{Formed}
-use Rattle.syntax.specs.declared.ListedNode.{ListedNode}
 use Rattle.syntax.specs.declared.Node.{Node}
 use Rattle.syntax.specs.declared.Node.TheVariants.{True, False, Proposition, Negation, Conjunction, Disjunction, Now, Holds, Count, Not, And, Or, Eventually, Always, BeforeMinus, BeforePlus, AfterMinus, AfterPlus, Fulfilling, Ignoring}
 use Rattle.syntax.specs.declared.Sheet.{Sheet}
@@ -67,7 +66,7 @@ abbrev pub front_bytes : (actions count : ℕ) → List ℕ → List ℕ
 front_bytes actions count propositions = header_bytes actions count ++ action_bytes propositions actions
 
 -- The first n nodes of an array; and a list of nodes, one after the other.
-abbrev pub nodes_bytes : List ListedNode → ℕ → List ℕ
+abbrev pub nodes_bytes : List Node → ℕ → List ℕ
 nodes_bytes nodes n = joined n (λ i. node_bytes (node_at nodes i))
 
 abbrev pub all_bytes : List Node → List ℕ

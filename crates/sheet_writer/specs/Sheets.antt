@@ -3,7 +3,6 @@
 use Rattle.std.specs.Prelude.{List, map, ◌++◌, ℕ, ◌-◌, ◌≤◌, ◌<◌, length, get_or, replicate}
 use Rattle.syntax.specs.declared.Node.{Node}
 use Rattle.syntax.specs.declared.Node.TheVariants.{True}
-use Rattle.syntax.specs.declared.ListedNode.{ListedNode}
 use Rattle.syntax.specs.declared.Sheet.{Sheet}
 
 -- 1 to 16 actions.
@@ -19,8 +18,8 @@ Narrow actions = (a : ℕ) → a < length actions → get_or actions a 0 < 65536
 abbrev pub filled_to : {A : Type 0} → ℕ → A → List A → List A
 filled_to size blank l = l ++ replicate (size - length l) blank
 
-abbrev pub listed_nodes : List Node → List ListedNode
-listed_nodes nodes = map (λ (n : Node). record { node = n }) nodes
+abbrev pub listed_nodes : List Node → List Node
+listed_nodes nodes = map (λ (n : Node). n) nodes
 
 abbrev pub listed_sheet : List ℕ → List Node → Sheet
 listed_sheet actions nodes =
@@ -28,5 +27,5 @@ listed_sheet actions nodes =
       actions = length actions;
       propositions = filled_to 16 0 actions;
       count = length nodes;
-      nodes = filled_to 64 (record { node = True }) (listed_nodes nodes);
+      nodes = filled_to 64 True (listed_nodes nodes);
     }

@@ -1,5 +1,7 @@
 -- One computed test of a sheet and its table, what it says where it passes, and that every starred case passes it.
 -- Assumes nothing.
+use Rattle.std.proofs.Common.{None}
+use Rattle.syntax.specs.declared.NodeType.{NodeType}
 use mathlib.Core.Path.{◌≡◌, refl, ◌∙◌, ap}
 use mathlib.Core.Bool.{Bool, true, ◌&&◌}
 use mathlib.Core.List.{List, [], ◌∷◌, map}
@@ -11,17 +13,14 @@ use Rattle.trace.specs.Trace.{Sequence, trips}
 use Rattle.automaton.specs.Machine.{transition}
 use Rattle.policy.specs.declared.Bound.{Bound}
 use Rattle.policy.specs.declared.Bound.TheVariants.{Unbounded}
-use Rattle.policy.specs.declared.Typing.{Typing}
-use Rattle.policy.specs.declared.Typing.TheVariants.{Typed, Untyped}
 use Rattle.policy.specs.Policy.{Policy, satisfies}
-use Rattle.policy.specs.Typing.{policy_type}
+use Rattle.policy.specs.Typing.{typed as Typed, Typing, policy_type}
 use Rattle.policy.specs.Trips.{trips_policy}
 use Rattle.policy.proofs.Typings.{typed-as}
 use Rattle.policy.proofs.Rules.{verdict-satisfied}
 use Rattle.syntax.specs.Nodes.{propositions_of}
 use Rattle.syntax.specs.Meaning.{sheet_policy}
 use Rattle.typing.specs.Typed.{Judgement, faulty, sound, no_types}
-use Rattle.syntax.specs.declared.TypedNode.{TypedNode}
 use Rattle.sheet_judge.specs.Judge.{judge}
 use Rattle.sheet_writer.specs.Bytes.{sheet_bytes}
 use Rattle.table.specs.Table.{type_of, actions_of, row_step, verdict_by, verdict}
@@ -67,7 +66,7 @@ module _ (case : Case) where
           ∙ (machine-sound actions propositions case.sheet.count policy (typed-as t) h.0).agrees w s
 
   -- A case whose sheet is judged sound, whose policy is of the type, and whose table passes the test is right.
-  right : {types : List TypedNode} {bound : Bound} → judge (sheet_bytes case.sheet) ≡ sound case.mode case.sheet types
+  right : {types : List NodeType} {bound : Bound} → judge (sheet_bytes case.sheet) ≡ sound case.mode case.sheet types
       → policy_type policy ≡ Typed case.mode bound → table_test ≡ true → Right case
   right {types} {bound} j t e =
       let a = and-true _ _ e in
@@ -86,13 +85,13 @@ module _ (case : Case) where
       }
 
 -- what is found of a case's sheet, and what it has to be
-abbrev types_of : Judgement → List TypedNode
+abbrev types_of : Judgement → List NodeType
 types_of (faulty f) = no_types
 types_of (sound mode sheet types) = types
 
 abbrev bound_of : Typing → Bound
 bound_of (Typed mode bound) = bound
-bound_of Untyped = Unbounded
+bound_of None = Unbounded
 
 abbrev found : Case → Judgement × Typing
 found case = (judge (sheet_bytes case.sheet), policy_type (sheet_policy case.sheet))

@@ -1,17 +1,16 @@
 -- What is said of a sheet and a table that belong together.
 -- Assumes nothing.
+use Rattle.syntax.specs.declared.NodeType.{NodeType}
 use Rattle.std.specs.Prelude.{◌≡◌, List, [], ◌∷◌, ℕ}
 use Rattle.trace.specs.declared.Mode.{Mode}
 use Rattle.trace.specs.Trace.{Sequence}
 use Rattle.policy.specs.declared.Bound.{Bound}
-use Rattle.policy.specs.declared.Typing.TheVariants.{Typed}
 use Rattle.policy.specs.Policy.{satisfies}
-use Rattle.policy.specs.Typing.{policy_type}
+use Rattle.policy.specs.Typing.{typed as Typed, policy_type}
 use Rattle.syntax.specs.Nodes.{propositions_of}
 use Rattle.syntax.specs.Meaning.{sheet_policy}
 use Rattle.typing.specs.Typed.{sound}
 use Rattle.syntax.specs.declared.Sheet.{Sheet}
-use Rattle.syntax.specs.declared.TypedNode.{TypedNode}
 use Rattle.sheet_judge.specs.Judge.{judge}
 use Rattle.sheet_writer.specs.Bytes.{sheet_bytes}
 use Rattle.table.specs.Table.{type_of, actions_of, Accepted, verdict}
@@ -26,7 +25,7 @@ pub record Case : Type 0 where
 -- The sheet's bytes pass checks 1 to 7, and its policy is of the type; the table passes 10 and 11, has the sheet's actions and the policy's
 -- type, and gives the policy's verdict after every sequence.
 pub record Right (case : Case) : Type 0 where
-  pub types : List TypedNode
+  pub types : List NodeType
   pub judged : judge (sheet_bytes case.sheet) ≡ sound case.mode case.sheet types
   pub bound : Bound
   pub typed : policy_type (sheet_policy case.sheet) ≡ Typed case.mode bound

@@ -1,3 +1,2 @@
 pub mod EqualParts
-pub mod Modes
 pub mod NodeTypes

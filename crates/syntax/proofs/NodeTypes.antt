@@ -1,22 +1,20 @@
 -- The type of a node says which of its parts are formulas and which policies.
 -- Assumes nothing.
+use Rattle.syntax.specs.declared.TypeError.TheVariants.{Unfit}
+use Rattle.std.proofs.Common.{None, Err, Ok}
 use mathlib.Core.Path.{◌≡◌, refl, sym, ◌∙◌}
 use Prim.Native.Nat.{ℕ, ◌<◌}
 use native.Mathlib.Omega.{arith}
 use Rattle.trace.specs.declared.Mode.{Mode}
 use Rattle.trace.specs.declared.Mode.TheVariants.{Watched, Enforced}
 use Rattle.policy.specs.declared.Bound.{Bound}
-use Rattle.policy.specs.declared.Typing.{Typing}
-use Rattle.policy.specs.declared.Typing.TheVariants.{Typed, Untyped}
-use Rattle.policy.specs.Typing.{alike_typed, type_not, type_eventually, type_always, type_before-, type_before+, type_after-, type_after+, type_fulfilling, type_ignoring}
+use Rattle.policy.specs.Typing.{typed as Typed, Typing, alike_typed, type_not, type_eventually, type_always, type_before-, type_before+, type_after-, type_after+, type_fulfilling, type_ignoring}
 use Rattle.syntax.specs.Formed.{PartsBelow}
-use Rattle.syntax.specs.Types.{typing_of, if_formula, found, type_node}
+use Rattle.syntax.specs.Types.{TypeFound, typing_of, if_formula, found, type_node}
 use Rattle.syntax.specs.declared.Node.{Node}
 use Rattle.syntax.specs.declared.Node.TheVariants.{True, False, Proposition, Negation, Conjunction, Disjunction, Now, Holds, Count, Not, And, Or, Eventually, Always, BeforeMinus, BeforePlus, AfterMinus, AfterPlus, Fulfilling, Ignoring}
 use Rattle.syntax.specs.declared.NodeType.{NodeType}
 use Rattle.syntax.specs.declared.NodeType.TheVariants.{Unused, Formula, Policy}
-use Rattle.syntax.specs.declared.TypeFound.{TypeFound}
-use Rattle.syntax.specs.declared.TypeFound.TheVariants.{Fits, Unfit}
 
 -- F holds of each part that has to be a formula, and P of each that has to be a policy.
 abbrev pub EachPart : (F P : ℕ → Type 0) → Node → Type 0
@@ -52,10 +50,10 @@ pub record PolicyBefore (types : ℕ → NodeType) (n i : ℕ) : Type 0 where
   pub bound : Bound
   pub is : types i ≡ Policy mode bound
 
-pub unfit : {A : Type 0} {t : NodeType} → Unfit ≡ Fits t → A
+pub unfit : {A : Type 0} {t : NodeType} → (Err Unfit) ≡ Ok t → A
 unfit e = absurd (let z : ◌≡◌ {A = ℕ} 0 1 = cc in omega arith)
 
-pub from-formula : (s : NodeType) (x : TypeFound) {t : NodeType} → if_formula s x ≡ Fits t → (s ≡ Formula) × (x ≡ Fits t)
+pub from-formula : (s : NodeType) (x : TypeFound) {t : NodeType} → if_formula s x ≡ Ok t → (s ≡ Formula) × (x ≡ Ok t)
 from-formula Unused x e = unfit e
 from-formula Formula x e = (refl, e)
 from-formula (Policy m k) x e = unfit e
@@ -65,7 +63,7 @@ module _ (types : ℕ → NodeType) (n : ℕ) where
   abbrev P : ℕ → Type 0
   P = PolicyBefore types n
 
-  one : (find : Typing → TypeFound) → find Untyped ≡ Unfit → (a : ℕ) → a < n → {t : NodeType} → find (typing_of (types a)) ≡ Fits t → P a
+  one : (find : Typing → TypeFound) → find None ≡ Err Unfit → (a : ℕ) → a < n → {t : NodeType} → find (typing_of (types a)) ≡ Ok t → P a
   one find strict a h {t} e = by (types a) refl
     where
       by : (s : NodeType) → types a ≡ s → P a
@@ -73,28 +71,28 @@ module _ (types : ℕ → NodeType) (n : ℕ) where
       by Formula p = unfit (sym strict ∙ rw p at e)
       by (Policy m k) p = record { before = h; mode = m; bound = k; is = p }
 
-  two : (find : Typing → Typing → TypeFound) → ((s : Typing) → find Untyped s ≡ Unfit) → ((k : Bound) → find (Typed Watched k) Untyped ≡ Unfit)
-      → ((k : Bound) → find (Typed Enforced k) Untyped ≡ Unfit) → (a b : ℕ) → (a < n) × (b < n) → {t : NodeType}
-      → find (typing_of (types a)) (typing_of (types b)) ≡ Fits t → P a × P b
+  two : (find : Typing → Typing → TypeFound) → ((s : Typing) → find None s ≡ (Err Unfit)) → ((k : Bound) → find (Typed Watched k) None ≡ (Err Unfit))
+      → ((k : Bound) → find (Typed Enforced k) None ≡ (Err Unfit)) → (a b : ℕ) → (a < n) × (b < n) → {t : NodeType}
+      → find (typing_of (types a)) (typing_of (types b)) ≡ Ok t → P a × P b
   two find first watched enforced a b h e =
       let p = one (λ s. find s (typing_of (types b))) (first _) a h.0 e in
       (p, one (find (Typed p.mode p.bound)) (second p.mode p.bound) b h.1 (rw p.is at e))
     where
-      second : (m : Mode) (k : Bound) → find (Typed m k) Untyped ≡ Unfit
+      second : (m : Mode) (k : Bound) → find (Typed m k) None ≡ Err Unfit
       second Watched k = watched k
       second Enforced k = enforced k
 
-  formula : (a : ℕ) → a < n → (x : TypeFound) {t : NodeType} → if_formula (types a) x ≡ Fits t → FormulaBefore types n a × (x ≡ Fits t)
+  formula : (a : ℕ) → a < n → (x : TypeFound) {t : NodeType} → if_formula (types a) x ≡ Ok t → FormulaBefore types n a × (x ≡ Ok t)
   formula a h x e = let f = from-formula (types a) x e in (record { before = h; is = f.0 }, f.1)
 
-  formulas : (a b : ℕ) → (a < n) × (b < n) → {t : NodeType} → if_formula (types a) (if_formula (types b) (Fits Formula)) ≡ Fits t
+  formulas : (a b : ℕ) → (a < n) × (b < n) → {t : NodeType} → if_formula (types a) (if_formula (types b) (Ok Formula)) ≡ Ok t
       → FormulaBefore types n a × FormulaBefore types n b
   formulas a b h e =
-      let f = formula a h.0 (if_formula (types b) (Fits Formula)) e in
-      (f.0, (formula b h.1 (Fits Formula) f.1).0)
+      let f = formula a h.0 (if_formula (types b) (Ok Formula)) e in
+      (f.0, (formula b h.1 (Ok Formula) f.1).0)
 
   -- kind 22: a watched part, and two enforced ones
-  three : (k a b c : ℕ) → (a < n) × (b < n) × (c < n) → {t : NodeType} → found (type_fulfilling k (typing_of (types a)) (typing_of (types b)) (typing_of (types c))) ≡ Fits t
+  three : (k a b c : ℕ) → (a < n) × (b < n) × (c < n) → {t : NodeType} → found (type_fulfilling k (typing_of (types a)) (typing_of (types b)) (typing_of (types c))) ≡ Ok t
       → P a × P b × P c
   three k a b c h {t} e = by (types a) (types b) (types c) refl refl refl
     where
@@ -113,11 +111,11 @@ module _ (types : ℕ → NodeType) (n : ℕ) where
         record { before = h.2; mode = m; bound = l; is = r },
       )
 
-  pub parts-fit : (node : Node) → PartsBelow n node → {t : NodeType} → type_node node types ≡ Fits t → EachPart (FormulaBefore types n) P node
+  pub parts-fit : (node : Node) → PartsBelow n node → {t : NodeType} → type_node node types ≡ Ok t → EachPart (FormulaBefore types n) P node
   parts-fit True h e = tt
   parts-fit False h e = tt
   parts-fit (Proposition p) h e = tt
-  parts-fit (Negation a) h e = (formula a h (Fits Formula) e).0
+  parts-fit (Negation a) h e = (formula a h (Ok Formula) e).0
   parts-fit (Conjunction a b) h e = formulas a b h e
   parts-fit (Disjunction a b) h e = formulas a b h e
   parts-fit (Now a) h e = (formula a h _ e).0

@@ -1,8 +1,12 @@
 -- A fault as its number and spot (docs/FORMATS.md, "Refusals"): the node for 4 to 7, else 0.
 -- Assumes nothing.
-use Rattle.std.specs.Prelude.{ℕ}
+use Rattle.std.specs.Prelude.{Result, ℕ}
 use Rattle.syntax.specs.declared.Fault.{Fault}
 use Rattle.syntax.specs.declared.Fault.TheVariants.{Length, Counts, Areas, UnknownKindAt, WrongFieldAt, WrongTypeAt, BoundAt}
+
+-- What checks find: no fault, or the first one.
+abbrev pub Judged : Type 0
+Judged = Result (Unit {0}) Fault
 
 abbrev pub number_of : Fault → ℕ
 number_of Length = 1

@@ -6,7 +6,6 @@ use Rattle.policy.specs.Policy.{Policy, now, holds-first, count, not-p, and-p, o
 use Rattle.syntax.specs.Nodes.{node_at}
 use Rattle.syntax.specs.Shape.{True, False, Proposition, Count, Negation, Now, Holds, Not, Eventually, Always, Conjunction, Disjunction, And, Or, BeforeMinus, BeforePlus, AfterMinus, AfterPlus, Ignoring, Fulfilling, Shape, leaf, unary, binary, ternary, shape_of, with_parts}
 use Rattle.syntax.specs.declared.Node.{Node}
-use Rattle.syntax.specs.declared.ListedNode.{ListedNode}
 use Rattle.syntax.specs.declared.Sheet.{Sheet}
 
 pub data Meaning : Type 0 where
@@ -60,7 +59,7 @@ abbrev pub meaning_of : List Meaning → Node → Meaning
 meaning_of before node = meaning_from (with_parts (meaning_at before) (shape_of node))
 
 -- The meanings of the first n nodes.
-abbrev pub meanings : List ListedNode → ℕ → List Meaning
+abbrev pub meanings : List Node → ℕ → List Meaning
 meanings nodes zero = []
 meanings nodes (suc n) = meanings nodes n ++ (meaning_of (meanings nodes n) (node_at nodes n) ∷ [])
 

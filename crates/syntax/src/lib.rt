@@ -8,7 +8,6 @@ use trace::Mode;
 mod faults;
 mod types;
 
-pub use faults::{fault_number, fault_spot};
 pub use types::{type_at, type_node};
 
 // A node: an action formula (kinds 1 to 6) or a policy (kinds 10 to 23), over the numbers of its parts.
@@ -36,19 +35,13 @@ pub enum Node {
     Ignoring(u8, u8),
 }
 
-// The same in an array's element.
-#[derive(Clone, Copy)]
-pub struct ListedNode {
-    pub node: Node,
-}
-
 // A sheet: the propositions of each action as a set of 16 bits, and the nodes, the last of which is the policy.
 #[derive(Clone, Copy)]
 pub struct Sheet {
     pub actions: usize,
     pub propositions: [u16; 16],
     pub count: usize,
-    pub nodes: [ListedNode; 64],
+    pub nodes: [Node; 64],
 }
 
 // The type of a node. A node that the policy does not use is not typed.
@@ -59,16 +52,9 @@ pub enum NodeType {
     Policy(Mode, Bound),
 }
 
-// The same in an array's element.
+// Why a node has no type: check 6 fails, or check 7.
 #[derive(Clone, Copy)]
-pub struct TypedNode {
-    pub of: NodeType,
-}
-
-// What typing a node finds: its type, or that check 6 or 7 fails.
-#[derive(Clone, Copy)]
-pub enum TypeFound {
-    Fits(NodeType),
+pub enum TypeError {
     Unfit,
     TooLong,
 }
@@ -85,16 +71,9 @@ pub enum Fault {
     BoundAt(usize),
 }
 
-// What checks find: no fault, or the first one.
-#[derive(Clone, Copy)]
-pub enum Judged {
-    Sound,
-    Faulty(Fault),
-}
-
 // The types of nodes, and the first fault of checks 6 and 7, where there is one; the types are then those of the nodes before it.
 #[derive(Clone, Copy)]
 pub struct TypedNodes {
-    pub judged: Judged,
-    pub types: [TypedNode; 64],
+    pub judged: Result<(), Fault>,
+    pub types: [NodeType; 64],
 }

@@ -1,264 +1,213 @@
 // The type of a node from those of its parts: checks 6 and 7.
 ghost use Rattle.std.specs.Prelude.{◌≡◌};
-ghost use Rattle.policy.specs.Typing.{plus, on_mode, alike_typed, type_count, type_not, type_eventually, type_always, type_before-, type_before+, type_after-, type_after+, type_fulfilling, type_ignoring};
-ghost use Rattle.policy.specs.declared.Typing.TheVariants.{Typed};
-ghost use Rattle.syntax.specs.Types.{type_at, typing_of, if_formula, bound_fits, type_node, only_as};
+ghost use Rattle.policy.specs.Typing.{typed, plus, on_mode, alike_typed, type_count, type_not, type_eventually, type_always, type_before-, type_before+, type_after-, type_after+, type_fulfilling, type_ignoring};
+ghost use Rattle.syntax.specs.Types.{type_at, typing_of, formula_found, bound_fits, type_node, only_as};
 
-use crate::{Node, NodeType, TypeFound, TypedNode};
-use policy::{Bound, Typing};
+use crate::{Node, NodeType, TypeError};
+use policy::{Bound, PolicyType};
 use trace::Mode;
 
 // The type of node i among those before.
-pub fn type_at(types: [TypedNode; 64], i: usize) -> NodeType
+pub fn type_at(types: [NodeType; 64], i: usize) -> NodeType
     ensures { result ≡ type_at types i }
 {
-    if i < 64 {
-        let t = types[i];
-        t.of
-    } else {
-        NodeType::Unused
-    }
+    if i < 64 { types[i] } else { NodeType::Unused }
 }
 
 // The type of a part that has to be a policy.
-fn part_at(types: [TypedNode; 64], i: u8) -> Typing
+fn part_at(types: [NodeType; 64], i: u8) -> Option<PolicyType>
     ensures { result ≡ typing_of (type_at types i) }
 {
-    match type_at(types, i as usize) {
-        NodeType::Unused => Typing::Untyped,
-        NodeType::Formula => Typing::Untyped,
-        NodeType::Policy(m, k) => Typing::Typed(m, k),
+    match type_at(types, usize::from(i)) {
+        NodeType::Policy(mode, bound) => Some((mode, bound)),
+        NodeType::Unused | NodeType::Formula => None,
     }
 }
 
-// What is found, where part i is an action formula.
-fn if_formula(types: [TypedNode; 64], i: u8, found: TypeFound) -> TypeFound
-    ensures { result ≡ if_formula (type_at types i) found }
+// Check 6 of a part that has to be an action formula.
+fn formula_at(types: [NodeType; 64], i: u8) -> Result<(), TypeError>
+    ensures { result ≡ formula_found (type_at types i) }
 {
-    match type_at(types, i as usize) {
-        NodeType::Unused => TypeFound::Unfit,
-        NodeType::Formula => found,
-        NodeType::Policy(_, _) => TypeFound::Unfit,
+    match type_at(types, usize::from(i)) {
+        NodeType::Formula => Ok(()),
+        NodeType::Unused | NodeType::Policy(_, _) => Err(TypeError::Unfit),
     }
 }
 
 // Check 7 of a bound.
-fn bound_fits(k: Bound) -> bool
-    ensures { result ≡ bound_fits k }
+fn bound_fits(bound: Bound) -> bool
+    ensures { result ≡ bound_fits bound }
 {
-    match k {
-        Bound::Finite(x) => x <= 65534,
+    match bound {
+        Bound::Finite(k) => k <= 65534,
         Bound::Unbounded => true,
     }
 }
 
 // Checks 6 and 7 of a typing.
-fn found(t: Typing) -> TypeFound
+fn found(t: Option<PolicyType>) -> Result<NodeType, TypeError>
     ensures { result ≡ Rattle.syntax.specs.Types.found t }
 {
-    let Typing::Typed(m, k) = t else {
-        return TypeFound::Unfit;
-    };
-    if bound_fits(k) {
-        TypeFound::Fits(NodeType::Policy(m, k))
+    let (mode, bound) = t.ok_or(TypeError::Unfit)?;
+    if bound_fits(bound) {
+        Ok(NodeType::Policy(mode, bound))
     } else {
-        TypeFound::TooLong
+        Err(TypeError::TooLong)
     }
 }
 
 // A part that has to be of a mode.
-fn only(mode: Mode, t: Typing) -> Typing
+fn only(mode: Mode, t: Option<PolicyType>) -> Option<PolicyType>
     ensures { result ≡ only_as mode t }
 {
-    let Typing::Typed(m, k) = t else {
-        return Typing::Untyped;
-    };
-    match mode {
-        Mode::Watched => match m {
-            Mode::Watched => Typing::Typed(Mode::Watched, k),
-            Mode::Enforced => Typing::Untyped,
-        },
-        Mode::Enforced => match m {
-            Mode::Watched => Typing::Untyped,
-            Mode::Enforced => Typing::Typed(Mode::Enforced, k),
-        },
-    }
+    t.filter(|(own, _)| *own == mode)
 }
 
 // The larger of two bounds.
 fn larger(j: Bound, k: Bound) -> Bound
     ensures { result ≡ Rattle.policy.specs.Typing.larger j k }
 {
-    let Bound::Finite(x) = j else {
-        return Bound::Unbounded;
-    };
-    let Bound::Finite(y) = k else {
-        return Bound::Unbounded;
-    };
-    if x < y {
-        Bound::Finite(y)
-    } else {
-        Bound::Finite(x)
+    match (j, k) {
+        (Bound::Finite(x), Bound::Finite(y)) => Bound::Finite(x.max(y)),
+        _ => Bound::Unbounded,
     }
 }
 
-// Check 7 of a sum of bounds, each of any size: a sum that does not fit is not added up.
-fn found_sum(m: Mode, j: Bound, k: Bound) -> TypeFound
-    ensures { result ≡ Rattle.syntax.specs.Types.found (Typed m (plus j k)) }
+// Check 7 of a sum of bounds, each of any size.
+fn found_sum(mode: Mode, j: Bound, k: Bound) -> Result<NodeType, TypeError>
+    ensures { result ≡ Rattle.syntax.specs.Types.found (typed mode (plus j k)) }
 {
-    let Bound::Finite(x) = j else {
-        return TypeFound::Fits(NodeType::Policy(m, Bound::Unbounded));
+    let (Bound::Finite(x), Bound::Finite(y)) = (j, k) else {
+        return Ok(NodeType::Policy(mode, Bound::Unbounded));
     };
-    let Bound::Finite(y) = k else {
-        return TypeFound::Fits(NodeType::Policy(m, Bound::Unbounded));
-    };
-    if 65534 < x {
-        return TypeFound::TooLong;
-    }
-    if 65534 - x < y {
-        return TypeFound::TooLong;
-    }
-    TypeFound::Fits(NodeType::Policy(m, Bound::Finite(x + y)))
+    let sum = x.checked_add(y).ok_or(TypeError::TooLong)?;
+    found(Some((mode, Bound::Finite(sum))))
 }
 
-fn type_count(k: u8) -> Typing
+fn type_count(k: u8) -> Option<PolicyType>
     ensures { result ≡ type_count k }
 {
-    if k < 1 {
-        return Typing::Untyped;
-    }
-    Typing::Typed(Mode::Watched, Bound::Finite(k as u16))
+    (1 <= k).then_some((Mode::Watched, Bound::Finite(u16::from(k))))
 }
 
-fn type_not(s: Typing) -> Typing
+fn type_not(s: Option<PolicyType>) -> Option<PolicyType>
     ensures { result ≡ type_not s }
 {
-    let Typing::Typed(m, k) = s else {
-        return Typing::Untyped;
-    };
-    match m {
-        Mode::Watched => Typing::Typed(Mode::Enforced, k),
-        Mode::Enforced => Typing::Typed(Mode::Watched, k),
+    match s? {
+        (Mode::Watched, k) => Some((Mode::Enforced, k)),
+        (Mode::Enforced, k) => Some((Mode::Watched, k)),
     }
 }
 
 // And, Or: both parts of one type, which the whole keeps.
-fn alike_typed(s: Typing, t: Typing) -> Typing
+fn alike_typed(s: Option<PolicyType>, t: Option<PolicyType>) -> Option<PolicyType>
     ensures { result ≡ alike_typed s t }
 {
-    let Typing::Typed(m, j) = s else {
-        return Typing::Untyped;
-    };
-    let Typing::Typed(_, k) = only(m, t) else {
-        return Typing::Untyped;
-    };
-    Typing::Typed(m, larger(j, k))
+    let (mode, j) = s?;
+    let (_, k) = only(mode, t)?;
+    Some((mode, larger(j, k)))
 }
 
-fn type_eventually(s: Typing) -> Typing
-    ensures { result ≡ type_eventually s }
+// Eventually of a watched part, Always of an enforced one.
+fn type_copied(mode: Mode, s: Option<PolicyType>) -> Option<PolicyType>
+    ensures { result ≡ on_mode mode (type_eventually s) (type_always s) }
 {
-    let Typing::Typed(_, _) = only(Mode::Watched, s) else {
-        return Typing::Untyped;
-    };
-    Typing::Typed(Mode::Watched, Bound::Unbounded)
+    only(mode, s)?;
+    Some((mode, Bound::Unbounded))
 }
 
-fn type_always(s: Typing) -> Typing
-    ensures { result ≡ type_always s }
+// Before- and Before+: b has to be of the mode that the whole has.
+fn type_before(mode: Mode, s: Option<PolicyType>, t: Option<PolicyType>) -> Option<PolicyType>
+    ensures { result ≡ on_mode mode (type_before- s t) (type_before+ s t) }
 {
-    let Typing::Typed(_, _) = only(Mode::Enforced, s) else {
-        return Typing::Untyped;
-    };
-    Typing::Typed(Mode::Enforced, Bound::Unbounded)
+    only(Mode::Watched, s)?;
+    only(mode, t)
 }
 
-fn type_before_minus(s: Typing, t: Typing) -> Typing
-    ensures { result ≡ type_before- s t }
-{
-    let Typing::Typed(_, _) = only(Mode::Watched, s) else {
-        return Typing::Untyped;
-    };
-    only(Mode::Watched, t)
-}
-
-fn type_before_plus(s: Typing, t: Typing) -> Typing
-    ensures { result ≡ type_before+ s t }
-{
-    let Typing::Typed(_, _) = only(Mode::Watched, s) else {
-        return Typing::Untyped;
-    };
-    only(Mode::Enforced, t)
-}
-
-fn type_ignoring(t: Typing) -> Typing
+fn type_ignoring(t: Option<PolicyType>) -> Option<PolicyType>
     ensures { result ≡ type_ignoring t }
 {
-    let Typing::Typed(m, _bound) = t else {
-        return Typing::Untyped;
-    };
-    Typing::Typed(m, Bound::Unbounded)
+    let (own, _bound) = t?;
+    Some((own, Bound::Unbounded))
 }
 
 // Checks 6 and 7 of After- and After+, whose bound is a sum: b has to be of the mode that the whole has.
-fn found_after(mode: Mode, s: Typing, t: Typing) -> TypeFound
+fn found_after(
+    mode: Mode,
+    s: Option<PolicyType>,
+    t: Option<PolicyType>,
+) -> Result<NodeType, TypeError>
     ensures { result ≡ Rattle.syntax.specs.Types.found (on_mode mode (type_after- s t) (type_after+ s t)) }
 {
-    let Typing::Typed(_, j) = only(Mode::Watched, s) else {
-        return TypeFound::Unfit;
-    };
-    let Typing::Typed(_, k) = only(mode, t) else {
-        return TypeFound::Unfit;
-    };
+    let (_, j) = only(Mode::Watched, s).ok_or(TypeError::Unfit)?;
+    let (_, k) = only(mode, t).ok_or(TypeError::Unfit)?;
     found_sum(mode, j, k)
 }
 
 // Checks 6 and 7 of Fulfilling: a may have any bound, and k is that of the wait.
-fn found_fulfilling(k: u8, s: Typing, t: Typing, u: Typing) -> TypeFound
+fn found_fulfilling(
+    k: u8,
+    s: Option<PolicyType>,
+    t: Option<PolicyType>,
+    u: Option<PolicyType>,
+) -> Result<NodeType, TypeError>
     ensures { result ≡ Rattle.syntax.specs.Types.found (type_fulfilling k s t u) }
 {
-    let Typing::Typed(_, _) = only(Mode::Watched, s) else {
-        return TypeFound::Unfit;
-    };
-    let Typing::Typed(_, j) = only(Mode::Enforced, t) else {
-        return TypeFound::Unfit;
-    };
-    let Typing::Typed(_, l) = only(Mode::Enforced, u) else {
-        return TypeFound::Unfit;
-    };
-    let most = k as u16;
-    found_sum(Mode::Enforced, Bound::Finite(most), larger(j, l))
+    only(Mode::Watched, s).ok_or(TypeError::Unfit)?;
+    let (_, j) = only(Mode::Enforced, t).ok_or(TypeError::Unfit)?;
+    let (_, l) = only(Mode::Enforced, u).ok_or(TypeError::Unfit)?;
+    found_sum(Mode::Enforced, Bound::Finite(u16::from(k)), larger(j, l))
 }
 
 // Checks 6 and 7 of a node, the nodes before it having `types`.
-pub fn type_node(node: Node, types: [TypedNode; 64]) -> TypeFound
+pub fn type_node(node: Node, types: [NodeType; 64]) -> Result<NodeType, TypeError>
     ensures { result ≡ type_node node (type_at types) }
 {
-    let formula = TypeFound::Fits(NodeType::Formula);
-    let one = Bound::Finite(1);
     match node {
-        Node::True => formula,
-        Node::False => formula,
-        Node::Proposition(_) => formula,
-        Node::Negation(a) => if_formula(types, a, formula),
-        Node::Conjunction(a, b) => if_formula(types, a, if_formula(types, b, formula)),
-        Node::Disjunction(a, b) => if_formula(types, a, if_formula(types, b, formula)),
-        Node::Now(a) => if_formula(types, a, found(Typing::Typed(Mode::Watched, one))),
-        Node::Holds(a) => if_formula(types, a, found(Typing::Typed(Mode::Enforced, one))),
+        Node::True | Node::False | Node::Proposition(_) => Ok(NodeType::Formula),
+        Node::Negation(a) => {
+            formula_at(types, a)?;
+            Ok(NodeType::Formula)
+        }
+        Node::Conjunction(a, b) | Node::Disjunction(a, b) => {
+            formula_at(types, a)?;
+            formula_at(types, b)?;
+            Ok(NodeType::Formula)
+        }
+        Node::Now(a) => {
+            formula_at(types, a)?;
+            Ok(NodeType::Policy(Mode::Watched, Bound::Finite(1)))
+        }
+        Node::Holds(a) => {
+            formula_at(types, a)?;
+            Ok(NodeType::Policy(Mode::Enforced, Bound::Finite(1)))
+        }
         Node::Count(k) => found(type_count(k)),
         Node::Not(a) => found(type_not(part_at(types, a))),
-        Node::And(a, b) => found(alike_typed(part_at(types, a), part_at(types, b))),
-        Node::Or(a, b) => found(alike_typed(part_at(types, a), part_at(types, b))),
-        Node::Eventually(a) => found(type_eventually(part_at(types, a))),
-        Node::Always(a) => found(type_always(part_at(types, a))),
-        Node::BeforeMinus(a, b) => found(type_before_minus(part_at(types, a), part_at(types, b))),
-        Node::BeforePlus(a, b) => found(type_before_plus(part_at(types, a), part_at(types, b))),
+        Node::And(a, b) | Node::Or(a, b) => found(alike_typed(
+            part_at(types, a),
+            part_at(types, b),
+        )),
+        Node::Eventually(a) => found(type_copied(Mode::Watched, part_at(types, a))),
+        Node::Always(a) => found(type_copied(Mode::Enforced, part_at(types, a))),
+        Node::BeforeMinus(a, b) => found(type_before(
+            Mode::Watched,
+            part_at(types, a),
+            part_at(types, b),
+        )),
+        Node::BeforePlus(a, b) => found(type_before(
+            Mode::Enforced,
+            part_at(types, a),
+            part_at(types, b),
+        )),
         Node::AfterMinus(a, b) => found_after(Mode::Watched, part_at(types, a), part_at(types, b)),
         Node::AfterPlus(a, b) => found_after(Mode::Enforced, part_at(types, a), part_at(types, b)),
         Node::Fulfilling(k, a, b, c) => {
-            let s = part_at(types, a);
-            found_fulfilling(k, s, part_at(types, b), part_at(types, c))
+            found_fulfilling(k, part_at(types, a), part_at(types, b), part_at(types, c))
         }
-        Node::Ignoring(a, b) => if_formula(types, a, found(type_ignoring(part_at(types, b)))),
+        Node::Ignoring(a, b) => {
+            formula_at(types, a)?;
+            found(type_ignoring(part_at(types, b)))
+        }
     }
 }

@@ -1,5 +1,7 @@
 -- A node whose parts' meanings agree with their types has a meaning that agrees with its own.
 -- Assumes nothing.
+use Rattle.syntax.specs.declared.TypeError.TheVariants.{TooLong}
+use Rattle.std.proofs.Common.{None, Err, Ok}
 use mathlib.Core.Path.{◌≡◌, refl, subst}
 use mathlib.Core.Bool.{Bool, true, false, cond}
 use mathlib.Core.List.{List}
@@ -7,34 +9,31 @@ use Prim.Native.Nat.{ℕ}
 use native.Mathlib.Omega.{arith}
 use Rattle.trace.specs.declared.Mode.{Mode}
 use Rattle.policy.specs.declared.Bound.{Bound}
-use Rattle.policy.specs.declared.Typing.{Typing}
-use Rattle.policy.specs.declared.Typing.TheVariants.{Typed, Untyped}
 use Rattle.policy.specs.Formula.{Formula as ActionFormula}
 use Rattle.policy.specs.Policy.{Policy as APolicy, now, holds-first, count, not-p, and-p, or-p, eventually, always, before-, before+, after-, after+, fulfilling, ignoring}
-use Rattle.policy.specs.Typing.{alike_typed, type_now, type_holds, type_count, type_not, type_eventually, type_always, type_before-, type_before+, type_after-, type_after+, type_fulfilling, type_ignoring, policy_type}
-use Rattle.syntax.specs.Types.{typing_of, bound_fits, found, type_node}
+use Rattle.policy.specs.Typing.{typed as Typed, Typing, alike_typed, type_now, type_holds, type_count, type_not, type_eventually, type_always, type_before-, type_before+, type_after-, type_after+, type_fulfilling, type_ignoring, policy_type}
+use Rattle.syntax.specs.Types.{TypeFound, typing_of, bound_fits, found, type_node}
 use Rattle.syntax.specs.Meaning.{Meaning, formula, policy, as_policy, formula_at, policy_at, meaning_of}
 use Rattle.typing.specs.Typed.{Agrees}
 use Rattle.syntax.specs.declared.Node.{Node}
 use Rattle.syntax.specs.declared.Node.TheVariants.{True, False, Proposition, Negation, Conjunction, Disjunction, Now, Holds, Count, Not, And, Or, Eventually, Always, BeforeMinus, BeforePlus, AfterMinus, AfterPlus, Fulfilling, Ignoring}
 use Rattle.syntax.specs.declared.NodeType.{NodeType}
 use Rattle.syntax.specs.declared.NodeType.TheVariants.{Unused, Formula, Policy}
-use Rattle.syntax.specs.declared.TypeFound.TheVariants.{Fits, TooLong}
 use Rattle.syntax.proofs.NodeTypes.{EachPart, FormulaBefore, PolicyBefore, unfit, from-formula}
 
-formula-agrees : (f : ActionFormula) (t : NodeType) → Fits Formula ≡ Fits t → Agrees t (formula f)
+formula-agrees : (f : ActionFormula) (t : NodeType) → ◌≡◌ {A = TypeFound} (Ok Formula) (Ok t) → Agrees t (formula f)
 formula-agrees f Unused e = absurd (let z : ◌≡◌ {A = ℕ} 0 1 = cc in omega arith)
 formula-agrees f Formula e = tt
 formula-agrees f (Policy m k) e = absurd (let z : ◌≡◌ {A = ℕ} 0 1 = cc in omega arith)
 
 -- a policy of the typing that is found
-policy-agrees : (p : APolicy) (s : Typing) (t : NodeType) → policy_type p ≡ s → found s ≡ Fits t → Agrees t (policy p)
+policy-agrees : (p : APolicy) (s : Typing) (t : NodeType) → policy_type p ≡ s → found s ≡ Ok t → Agrees t (policy p)
 policy-agrees p (Typed m k) t q e = by (bound_fits k) e
   where
-    by : (fit : Bool) → cond fit (Fits (Policy m k)) TooLong ≡ Fits t → Agrees t (policy p)
+    by : (fit : Bool) → cond fit (Ok (Policy m k)) (Err TooLong) ≡ Ok t → Agrees t (policy p)
     by true e = let same : Policy m k ≡ t = cc in subst (λ (x : NodeType). Agrees x (policy p)) same q
     by false e = absurd (let z : ◌≡◌ {A = ℕ} 0 1 = cc in omega arith)
-policy-agrees p Untyped t q e = unfit e
+policy-agrees p None t q e = unfit e
 
 pub agrees-typed : (t : NodeType) (x : Meaning) → Agrees t x → {m : Mode} {k : Bound} → t ≡ Policy m k → policy_type (as_policy x) ≡ typing_of t
 agrees-typed Unused x a e = absurd a
@@ -50,7 +49,7 @@ module _ (types : ℕ → NodeType) (before : List Meaning) (n : ℕ)
   abbrev p : ℕ → APolicy
   p i = policy_at before i
 
-  pub agree-node : (node : Node) → EachPart (FormulaBefore types n) (PolicyBefore types n) node → (t : NodeType) → type_node node types ≡ Fits t
+  pub agree-node : (node : Node) → EachPart (FormulaBefore types n) (PolicyBefore types n) node → (t : NodeType) → type_node node types ≡ Ok t
       → Agrees t (meaning_of before node)
   agree-node True h t e = formula-agrees _ t e
   agree-node False h t e = formula-agrees _ t e

@@ -1,5 +1,6 @@
 -- The meanings of the nodes of a sound sheet: later nodes change none, and a used one's agrees with its type.
 -- Assumes nothing.
+use Rattle.syntax.specs.declared.NodeType.{NodeType}
 use mathlib.Core.Path.{◌≡◌, refl, sym, ap, subst, ◌∙◌}
 use mathlib.Core.List.{List, [], ◌∷◌}
 use Prim.Native.Nat.{ℕ, zero, suc, ◌<◌}
@@ -10,16 +11,14 @@ use lib.ListN.{length, get_or, length-append, get_or-append}
 use lib.Seq.{get_or_at}
 use Rattle.trace.specs.declared.Mode.{Mode}
 use Rattle.policy.specs.declared.Bound.{Bound}
-use Rattle.policy.specs.declared.Typing.TheVariants.{Typed}
 use Rattle.policy.specs.Formula.{always-false}
-use Rattle.policy.specs.Typing.{policy_type}
+use Rattle.policy.specs.Typing.{typed as Typed, policy_type}
 use Rattle.syntax.specs.Nodes.{node_of}
 use Rattle.syntax.specs.Types.{type_at, typing_of}
 use Rattle.syntax.specs.Meaning.{Meaning, formula, meaning_of, meanings, node_policy, policy_at}
 use Rattle.typing.specs.Typed.{SoundSheet, Agrees}
 use Rattle.syntax.specs.declared.NodeType.TheVariants.{Unused, Policy}
 use Rattle.syntax.specs.declared.Sheet.{Sheet}
-use Rattle.syntax.specs.declared.TypedNode.{TypedNode}
 use Rattle.typing.proofs.Agreement.{agrees-typed, agree-node}
 use Rattle.typing.proofs.Sound.{typed-fits, typed-policy}
 use Rattle.syntax.proofs.NodeTypes.{EachPart, FormulaBefore, PolicyBefore, parts-fit}
@@ -50,7 +49,7 @@ module _ (sheet : Sheet) where
       go ih (no q) =
           get_or-append (up_to j) (meaning_of (up_to j) (node_of sheet j) ∷ []) (formula always-false) n (omega (arith, length-meanings j)) ∙ ih (omega arith)
 
-module _ {mode : Mode} (sheet : Sheet) (types : List TypedNode) (sound : SoundSheet mode sheet types) where
+module _ {mode : Mode} (sheet : Sheet) (types : List NodeType) (sound : SoundSheet mode sheet types) where
   -- each part of a node that has a type stands before it, and is a formula or a policy as the kind asks
   pub node-parts : (n : ℕ) → n < sheet.count → (type_at types n ≡ Unused → ⊥)
       → EachPart (FormulaBefore (type_at types) n) (PolicyBefore (type_at types) n) (node_of sheet n)

@@ -1,5 +1,7 @@
 -- Laws of the types of nodes one by one: a fault stays.
 -- Assumes nothing.
+use Rattle.syntax.specs.declared.NodeType.{NodeType}
+use Rattle.syntax.specs.declared.Node.{Node}
 use mathlib.Core.Path.{◌≡◌, ap, sym, ◌∙◌}
 use mathlib.Core.Bool.{true, false}
 use mathlib.Core.List.{List}
@@ -8,15 +10,12 @@ use native.Mathlib.Decide.{ℕ_discrete}
 use native.Mathlib.Omega.{arith}
 use Rattle.base.specs.Sets.{bit}
 use Rattle.syntax.specs.Nodes.{node_at}
-use Rattle.syntax.specs.Types.{type_at, type_node}
+use Rattle.syntax.specs.Types.{TypeFound, type_at, type_node}
 use Rattle.typing.specs.Typed.{mistyped, typed, type_next, type_nodes}
-use Rattle.syntax.specs.declared.ListedNode.{ListedNode}
-use Rattle.syntax.specs.declared.TypedNode.{TypedNode}
-use Rattle.syntax.specs.declared.TypeFound.{TypeFound}
 use Rattle.syntax.specs.declared.Fault.{Fault}
 
-module _ (used : ℕ) (nodes : List ListedNode) where
-  fault-stays : (m n : ℕ) (f : Fault) (t : List TypedNode) → type_nodes used nodes n ≡ mistyped f t → n ≤ m → type_nodes used nodes m ≡ mistyped f t
+module _ (used : ℕ) (nodes : List Node) where
+  fault-stays : (m n : ℕ) (f : Fault) (t : List NodeType) → type_nodes used nodes n ≡ mistyped f t → n ≤ m → type_nodes used nodes m ≡ mistyped f t
   fault-stays zero n f t e h = let z : n ≡ 0 = omega arith in rw z at e
   fault-stays (suc m) n f t e h = go (fault-stays m n f t e) (ℕ_discrete n (suc m))
     where
@@ -24,12 +23,8 @@ module _ (used : ℕ) (nodes : List ListedNode) where
       go below (yes p) = rw p at e
       go below (no q) = rw (below (omega arith))
 
-  -- a node that is not used is passed over
-  pub type-past : (n : ℕ) (types : List TypedNode) → type_nodes used nodes n ≡ typed types → bit used n ≡ false → type_nodes used nodes (suc n) ≡ typed types
-  type-past n types before e = rw (before, e)
-
   -- the nodes before n are typed, and what is found of node n, a used one, is known
-  module _ (n : ℕ) (types : List TypedNode) (before : type_nodes used nodes n ≡ typed types) (in_use : bit used n ≡ true)
+  module _ (n : ℕ) (types : List NodeType) (before : type_nodes used nodes n ≡ typed types) (in_use : bit used n ≡ true)
       (found : TypeFound) (is : found ≡ type_node (node_at nodes n) (type_at types)) where
     pub type-more : type_nodes used nodes (suc n) ≡ type_next n types found
     type-more = rw (before, in_use) (ap (type_next n types) (sym is))

@@ -1,49 +1,45 @@
 -- Checks 6 and 7 of the used nodes of a sheet, one by one, and the last node's 6: the first fault, or the types of the nodes.
 -- Assumes nothing.
-use Rattle.std.specs.Prelude.{◌≡◌, cond, List, ℕ, zero, suc, ◌-◌, ◌<◌, set, replicate}
+use Rattle.syntax.specs.declared.TypeError.TheVariants.{TooLong, Unfit}
+use Rattle.syntax.specs.declared.Node.{Node}
+use Rattle.std.specs.Prelude.{Err, Ok, ◌≡◌, cond, List, ℕ, zero, suc, ◌-◌, ◌<◌, set, replicate}
 use Rattle.base.specs.Sets.{bit}
 use Rattle.trace.specs.declared.Mode.{Mode}
 use Rattle.policy.specs.declared.Bound.{Bound}
-use Rattle.policy.specs.declared.Typing.TheVariants.{Typed}
-use Rattle.policy.specs.Typing.{policy_type}
+use Rattle.policy.specs.Typing.{typed as Typed, policy_type}
 use Rattle.syntax.specs.Nodes.{node_at, node_of}
 use Rattle.syntax.specs.Formed.{Formed}
-use Rattle.syntax.specs.Types.{type_at, type_node}
+use Rattle.syntax.specs.Types.{TypeFound, type_at, type_node}
 use Rattle.syntax.specs.Meaning.{Meaning, formula, policy}
-use Rattle.syntax.specs.declared.ListedNode.{ListedNode}
 use Rattle.syntax.specs.declared.Sheet.{Sheet}
 use Rattle.syntax.specs.declared.NodeType.{NodeType}
 use Rattle.syntax.specs.declared.NodeType.TheVariants.{Unused, Formula, Policy}
-use Rattle.syntax.specs.declared.TypedNode.{TypedNode}
-use Rattle.syntax.specs.declared.TypeFound.{TypeFound}
-use Rattle.syntax.specs.declared.TypeFound.TheVariants.{Fits, Unfit, TooLong}
 use Rattle.syntax.specs.declared.Fault.{Fault}
 use Rattle.syntax.specs.declared.Fault.TheVariants.{WrongTypeAt, BoundAt}
-use Rattle.syntax.specs.declared.Judged.TheVariants.{Sound, Faulty}
 use Rattle.syntax.specs.declared.TypedNodes.{TypedNodes}
 use Rattle.reached.specs.Parts.{Used, used_set}
 
 -- The types of the first nodes, `Unused` after them; or the first fault, with the types of the nodes before it.
 pub data Typings : Type 0 where
-  mistyped : Fault → List TypedNode → Typings
-  typed : List TypedNode → Typings
+  mistyped : Fault → List NodeType → Typings
+  typed : List NodeType → Typings
 
-abbrev pub no_types : List TypedNode
-no_types = replicate 64 (record { of = Unused })
+abbrev pub no_types : List NodeType
+no_types = replicate 64 Unused
 
 -- checks 6 and 7 of node n, the nodes before it having `types`
-abbrev pub type_next : ℕ → List TypedNode → TypeFound → Typings
-type_next n types (Fits t) = typed (set types n (record { of = t }))
-type_next n types Unfit = mistyped (WrongTypeAt n) types
-type_next n types TooLong = mistyped (BoundAt n) types
+abbrev pub type_next : ℕ → List NodeType → TypeFound → Typings
+type_next n types (Ok t) = typed (set types n t)
+type_next n types (Err Unfit) = mistyped (WrongTypeAt n) types
+type_next n types (Err TooLong) = mistyped (BoundAt n) types
 
 -- an earlier fault stays
-abbrev pub unless_mistyped : Typings → (List TypedNode → Typings) → Typings
+abbrev pub unless_mistyped : Typings → (List NodeType → Typings) → Typings
 unless_mistyped (mistyped f types) next = mistyped f types
 unless_mistyped (typed types) next = next types
 
 -- the first n nodes, one after the other; those that are not in the set are passed over
-abbrev pub type_nodes : (used : ℕ) → List ListedNode → ℕ → Typings
+abbrev pub type_nodes : (used : ℕ) → List Node → ℕ → Typings
 type_nodes used nodes zero = typed no_types
 type_nodes used nodes (suc n) =
     unless_mistyped (type_nodes used nodes n)
@@ -51,16 +47,16 @@ type_nodes used nodes (suc n) =
 
 -- What the code returns of it.
 abbrev pub typed_nodes : Typings → TypedNodes
-typed_nodes (mistyped f types) = record { judged = Faulty f; types = types }
-typed_nodes (typed types) = record { judged = Sound; types = types }
+typed_nodes (mistyped f types) = record { judged = Err f; types = types }
+typed_nodes (typed types) = record { judged = (Ok tt); types = types }
 
 -- The outcome of the checks: the first fault, or the policy's mode with the sheet and the types of its nodes.
 pub data Judgement : Type 0 where
   faulty : Fault → Judgement
-  sound : Mode → Sheet → List TypedNode → Judgement
+  sound : Mode → Sheet → List NodeType → Judgement
 
 -- the last node is a policy
-abbrev pub judge_last : Sheet → List TypedNode → NodeType → Judgement
+abbrev pub judge_last : Sheet → List NodeType → NodeType → Judgement
 judge_last sheet types Unused = faulty (WrongTypeAt (sheet.count - 1))
 judge_last sheet types Formula = faulty (WrongTypeAt (sheet.count - 1))
 judge_last sheet types (Policy m k) = sound m sheet types
@@ -75,13 +71,13 @@ abbrev pub judge_sheet : Sheet → Judgement
 judge_sheet sheet = judge_typed sheet (type_nodes (used_set sheet) sheet.nodes sheet.count)
 
 -- A node is used, and has its type from those of its parts; or it is not used, and has none.
-pub data TypedAs (sheet : Sheet) (types : List TypedNode) (n : ℕ) : Type 0 where
-  used : Used sheet n → type_node (node_of sheet n) (type_at types) ≡ Fits (type_at types n) → TypedAs sheet types n
+pub data TypedAs (sheet : Sheet) (types : List NodeType) (n : ℕ) : Type 0 where
+  used : Used sheet n → type_node (node_of sheet n) (type_at types) ≡ Ok (type_at types n) → TypedAs sheet types n
   spare : (Used sheet n → ⊥) → type_at types n ≡ Unused → TypedAs sheet types n
 
 -- A sheet whose checks 2 and 5 to 7 pass, in plain statements: its nodes are formed, each used one has its type from those of its parts, and the
 -- last one is a policy of the mode. `judged-sound` (proofs/Sound.antt): a formed sheet that is judged sound is one.
-pub record SoundSheet (mode : Mode) (sheet : Sheet) (types : List TypedNode) : Type 0 where
+pub record SoundSheet (mode : Mode) (sheet : Sheet) (types : List NodeType) : Type 0 where
   pub formed : Formed sheet
   pub types-each : (n : ℕ) → n < sheet.count → TypedAs sheet types n
   pub bound : Bound

@@ -4,36 +4,27 @@
 ghost use Rattle.std.specs.Prelude.{◌≡◌, ◌≤◌};
 ghost use Rattle.typing.specs.Typed.{type_nodes, typed_nodes};
 
-use syntax::{Fault, Judged, ListedNode, NodeType, TypeFound, TypedNode, TypedNodes, type_node};
+use syntax::{Fault, Node, NodeType, TypeError, TypedNodes, type_node};
 
 // The types of the used ones among the first `count` nodes; or the first fault among them, and the types of those before it.
-pub fn type_nodes(used: u64, nodes: [ListedNode; 64], count: usize) -> TypedNodes
+pub fn type_nodes(used: u64, nodes: [Node; 64], count: usize) -> TypedNodes
     requires { count ≤ 64 }
     ensures { result ≡ typed_nodes (type_nodes used nodes count) }
 {
-    let mut types = [TypedNode {
-        of: NodeType::Unused,
-    }; 64];
-    let mut n = 0;
-    while n < count {
-        let i = n;
-        n += 1;
-        if (used >> i) % 2 == 1 {
-            let listed = nodes[i];
-            let node = listed.node;
-            match type_node(node, types) {
-                TypeFound::Fits(t) => {
-                    types[i] = TypedNode { of: t };
-                }
-                TypeFound::Unfit => {
+    let mut types = [NodeType::Unused; 64];
+    for n in 0..count {
+        if (used >> n) % 2 == 1 {
+            match type_node(nodes[n], types) {
+                Ok(found) => types[n] = found,
+                Err(TypeError::Unfit) => {
                     return TypedNodes {
-                        judged: Judged::Faulty(Fault::WrongTypeAt(i)),
+                        judged: Err(Fault::WrongTypeAt(n)),
                         types,
                     };
                 }
-                TypeFound::TooLong => {
+                Err(TypeError::TooLong) => {
                     return TypedNodes {
-                        judged: Judged::Faulty(Fault::BoundAt(i)),
+                        judged: Err(Fault::BoundAt(n)),
                         types,
                     };
                 }
@@ -41,7 +32,7 @@ pub fn type_nodes(used: u64, nodes: [ListedNode; 64], count: usize) -> TypedNode
         }
     }
     TypedNodes {
-        judged: Judged::Sound,
+        judged: Ok(()),
         types,
     }
 }

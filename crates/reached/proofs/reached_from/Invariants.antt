@@ -6,7 +6,4 @@ use Rattle.reached.specs.Parts.{part_sets}
 use Rattle.reached.proofs.reached_from.Given as goal
 
 abbrev pub invariant-loop-n : goal.invariant-loop-n
-invariant-loop-n l = (l.n ≤ suc l.from) × (spread (part_sets l.through l.nodes) l.set l.n ≡ reached_set (part_sets l.through l.nodes) l.from)
-
-abbrev pub decreases-loop-n : goal.decreases-loop-n
-decreases-loop-n l = l.n
+invariant-loop-n l = (l.n ≤ l.from) × (spread (part_sets l.through l.nodes) l.set (suc l.n) ≡ reached_set (part_sets l.through l.nodes) l.from)

@@ -36,15 +36,3 @@ only-requires-in-ThreeParts-2 c = let (x, y, z) = three-low _ c.in-ThreeParts.is
 pub only-requires-in-ThreeParts-3 : goal.only-requires-in-ThreeParts-3
 only-requires-in-ThreeParts-3 c =
     let (x, y, z) = three-low _ c.in-ThreeParts.is c.requires in search rules
-
-pub returns-in-NoPart : goal.returns-in-NoPart
-returns-in-NoPart c = rw c.in-NoPart.is
-
-pub returns-in-OnePart : goal.returns-in-OnePart
-returns-in-OnePart c = rw (c.in-OnePart.is, c.only.ensures)
-
-pub returns-in-TwoParts : goal.returns-in-TwoParts
-returns-in-TwoParts c = rw (c.in-TwoParts.is, c.only-in-TwoParts.ensures, c.only-in-TwoParts-2.ensures)
-
-pub returns-in-ThreeParts : goal.returns-in-ThreeParts
-returns-in-ThreeParts c = rw (c.in-ThreeParts.is, c.only-in-ThreeParts.ensures, c.only-in-ThreeParts-2.ensures, c.only-in-ThreeParts-3.ensures)

@@ -1,11 +1,7 @@
 -- `typing::type_nodes` meets its contract. The loop's invariant: the array has the types of the used nodes before n.
 use mathlib.Core.Path.{◌≡◌}
-use Prim.Native.Nat.{◌-◌, ◌≤◌}
 use Rattle.typing.specs.Typed.{typed, type_nodes}
 use Rattle.typing.proofs.type_nodes.Given as goal
 
 abbrev pub invariant-loop-n : goal.invariant-loop-n
-invariant-loop-n l = (l.n ≤ l.count) × (type_nodes l.used l.nodes l.n ≡ typed l.types)
-
-abbrev pub decreases-loop-n : goal.decreases-loop-n
-decreases-loop-n l = l.count - l.n
+invariant-loop-n l = type_nodes l.used l.nodes l.n ≡ typed l.types

@@ -1,25 +1,19 @@
 -- The goals of `sheet_reading::reading::read_nodes` that the check leaves.
-use mathlib.Core.Path.{◌≡◌, refl, ap, sym, ◌∙◌}
+use Rattle.syntax.specs.declared.Node.{Node}
+use mathlib.Core.Path.{◌≡◌, ap, sym, ◌∙◌}
 use mathlib.Core.List.{List}
 use Prim.Native.Nat.{ℕ, suc, ◌+◌, ◌*◌}
 use native.Mathlib.Numerals.{add-one}
 use native.Mathlib.Omega.{arith}
-use borrow.Author.Rules.{rules}
 use Rattle.syntax.specs.declared.Fault.{Fault}
-use Rattle.syntax.specs.declared.ListedNode.{ListedNode}
-use Rattle.sheet_reading.specs.Reading.{node_read, stopped_at, read_next, read_nodes}
-use Rattle.sheet_reading.specs.declared.NodeRead.{NodeRead}
-use Rattle.sheet_reading.specs.declared.NodeRead.TheVariants.{Known}
+use Rattle.sheet_reading.specs.Reading.{NodeRead, node_read, stopped_at, read_next, read_nodes}
 use Rattle.sheet_reading.specs.declared.NodesRead.{NodesRead}
 use Rattle.sheet_reading.proofs.ReadNodes.{node-at, read_more, stopped-at}
 use Rattle.sheet_reading.proofs.reading.read_nodes.Goals as goal
-use Rattle.sheet_reading.proofs.reading.read_nodes.Goals.{After-read_node-read}
-
-pub loop-n-init : goal.loop-n-init
-loop-n-init c = (search rules, refl)
+use Rattle.sheet_reading.proofs.reading.read_nodes.Goals.{After-read_node}
 
 -- what is read of node n
-module _ (c : After-read_node-read) where
+module _ (c : After-read_node) where
   abbrev bytes : List ℕ
   bytes = c.args.bytes.now
 
@@ -29,40 +23,34 @@ module _ (c : After-read_node-read) where
   abbrev n : ℕ
   n = c.loop-n.n
 
-  abbrev nodes : List ListedNode
+  abbrev nodes : List Node
   nodes = c.loop-n.nodes
 
   abbrev read_as : NodeRead → NodesRead
   read_as = read_next n nodes
 
-  is : c.read_node-read.result ≡ node_read bytes n
+  is : c.read_node.result ≡ node_read bytes n
   is =
-      node-at bytes n (c.args.from + 5 * n) c.read_node-read.result (ap (λ (at : ℕ). at + 5 * n) (c.requires.from_value (omega arith))) c.read_node-read.ensures
+      node-at bytes n (c.args.from + 5 * n) c.read_node.result (ap (λ (at : ℕ). at + 5 * n) (c.requires.from_value (omega arith))) c.read_node.ensures
 
-  more : read_nodes bytes (suc n) ≡ read_as c.read_node-read.result
-  more = read_more bytes n nodes c.loop-n.invariant.1 c.read_node-read.result is
+  more : read_nodes bytes (suc n) ≡ read_as c.read_node.result
+  more = read_more bytes n nodes c.loop-n.invariant c.read_node.result is
 
-  stopped : (f : Fault) → read_as c.read_node-read.result ≡ stopped_at nodes f → stopped_at nodes f ≡ read_nodes bytes count
+  stopped : (f : Fault) → read_as c.read_node.result ≡ stopped_at nodes f → stopped_at nodes f ≡ read_nodes bytes count
   stopped f e =
-      sym (stopped-at bytes n nodes c.loop-n.invariant.1 c.read_node-read.result is count f c.loop-n-test.true e)
+      sym (stopped-at bytes n nodes c.loop-n.invariant c.read_node.result is count f c.loop-n-test.true e)
 
-pub returns-in_default : goal.returns-in_default
-returns-in_default c = stopped (goal.at.returns-in_default c).After-read_node-read _ (ap (read_as (goal.at.returns-in_default c).After-read_node-read) c.in_default.is)
+pub returns-in-Err-UnknownKind : goal.returns-in-Err-UnknownKind
+returns-in-Err-UnknownKind c =
+    let a = (goal.at.returns-in-Err-UnknownKind c).After-read_node in
+    stopped a _ (ap (read_as a) (rw c.in-Err-UnknownKind.field-0-is at c.in-Err-UnknownKind.is))
 
-pub returns-in_default-fields : goal.returns-in_default-fields
-returns-in_default-fields c =
-    let a = (goal.at.returns-in_default-fields c).After-read_node-read in
-    stopped a _ (ap (read_as a) (c.in-Known.is ∙ ap Known c.in_default-fields.is))
+pub returns-in-Err-WrongField : goal.returns-in-Err-WrongField
+returns-in-Err-WrongField c =
+    let a = (goal.at.returns-in-Err-WrongField c).After-read_node in
+    stopped a _ (ap (read_as a) (rw c.in-Err-WrongField.field-0-is at c.in-Err-WrongField.is))
 
 pub loop-n-preserved : goal.loop-n-preserved
 loop-n-preserved c =
-    let a = (goal.at.loop-n-preserved c).After-read_node-read in (
-      search rules,
-      rw (add-one (n a))
-          (more a ∙ ap (read_as a) (c.in-Known.is ∙ ap Known c.in-Right.is)),
-    )
-
-pub returns : goal.returns
-returns c =
-    let e : c.loop-n.n ≡ c.args.count = omega arith in
-    sym c.loop-n.invariant.1 ∙ ap (read_nodes c.args.bytes.now) e
+    let a = (goal.at.loop-n-preserved c).After-read_node in
+    rw (add-one (n a)) (more a ∙ ap (read_as a) c.in-Ok.is)
