@@ -6,28 +6,26 @@ use mathlib.Core.List.{List, [], ◌∷◌, map, map-append}
 use Prim.Native.Nat.{ℕ, zero, suc, ◌+◌, ◌*◌, ◌-◌, ◌≤◌, ◌<◌}
 use native.Mathlib.Numerals.{add-one}
 use native.Mathlib.Omega.{arith}
-use lib.Dec.{eqb, leb, ltb}
+use lib.Dec.{eqb}
 use lib.ListN.{length, get_or, take, drop, set, length-set, length-drop, drop_of_length-le}
 use lib.Seq.{drop-cons, take-suc, take-suc-set}
-use borrow.Author.Tests.{leb-true, lt-ltb, le-ltb}
-use Rattle.base.proofs.Truths.{and-true}
+use borrow.Author.Tests.{lt-ltb, le-ltb}
 use Rattle.grammar.specs.Words.{Word}
 use Rattle.grammar.specs.Spelling.{is_digit}
-use Rattle.action_lists.specs.ActionLists.{is_name, action_named}
-use Rattle.action_lists.specs.AskedLists.{all_digits, digits_value, unpadded, number_from, named_of, asked_of, ReadsList}
+use Rattle.action_lists.specs.AskedLists.{all_digits, digits_value, unpadded, number_from, asked_of, ReadsList}
 
 -- Zeros before the last byte.
-pub short-unpadded : (word : Word) → length word < 2 → unpadded word ≡ eqb (length word) 1
+pub short_unpadded : (word : Word) → length word < 2 → unpadded word ≡ eqb (length word) 1
 unfolding unpadded
-short-unpadded [] h = refl
-short-unpadded (digit ∷ []) h = refl
-short-unpadded (digit ∷ next ∷ rest) h = absurd (omega arith)
+short_unpadded [] h = refl
+short_unpadded (digit ∷ []) h = refl
+short_unpadded (digit ∷ next ∷ rest) h = absurd (omega arith)
 
-pub long-unpadded : (word : Word) → 2 ≤ length word → unpadded word ≡ not (eqb (get_or word 0 0) 48)
+pub long_unpadded : (word : Word) → 2 ≤ length word → unpadded word ≡ not (eqb (get_or word 0 0) 48)
 unfolding unpadded
-long-unpadded [] h = absurd (omega arith)
-long-unpadded (digit ∷ []) h = absurd (omega arith)
-long-unpadded (digit ∷ next ∷ rest) h = refl
+long_unpadded [] h = absurd (omega arith)
+long_unpadded (digit ∷ []) h = absurd (omega arith)
+long_unpadded (digit ∷ next ∷ rest) h = refl
 
 -- A value only grows by the digits after it.
 decimal-grows : (value : ℕ) (word : Word) → value ≤ digits_value value word
@@ -46,49 +44,14 @@ pub number-ends : (value : ℕ) (word : Word) (k : ℕ) → value ≤ 254 → le
 unfolding number_from
 number-ends value word k h l = rw (drop_of_length-le word l, lt-ltb value 255 (omega arith))
 
-pub digit_low : (byte : ℕ) → is_digit byte ≡ true → 48 ≤ byte
-digit_low byte e = leb-true 48 byte (and-true (leb 48 byte) (leb byte 57) e).0
-
 module _ (value : ℕ) (word : Word) (k : ℕ) (h : k < length word) where
-  digit-more : is_digit (get_or word k 0) ≡ true → number_from value (drop k word) ≡ number_from (10 * value + (get_or word k 0 - 48)) (drop (k + 1) word)
+  pub digit-more : is_digit (get_or word k 0) ≡ true → number_from value (drop k word) ≡ number_from (10 * value + (get_or word k 0 - 48)) (drop (k + 1) word)
   unfolding number_from
   digit-more e = rw (add-one, drop-cons word k 0, e)
-
-  pub number_more : {byte : ℕ} → byte ≡ get_or word k 0 → is_digit (get_or word k 0) ≡ true → number_from value (drop k word) ≡ number_from (10 * value + byte - 48) (drop (k + 1) word)
-  number_more {byte} b e = digit-more e ∙ ap (λ (v : ℕ). number_from v (drop (k + 1) word)) (omega (arith, digit_low (get_or word k 0) e))
 
   pub number-wrong : is_digit (get_or word k 0) ≡ false → number_from value (drop k word) ≡ 255
   unfolding number_from
   number-wrong e = rw (drop-cons word k 0, e)
-
--- The number of a name.
-module _ (names : List Word) (word : Word) where
-  pub named-large : 255 ≤ action_named names word → named_of names word ≡ 255
-  unfolding named_of
-  named-large h = rw (le-ltb (action_named names word) 255 h)
-
-  module _ (h : action_named names word < 255) where
-    pub named-number : ltb (action_named names word) (length names) ≡ true → named_of names word ≡ action_named names word
-    unfolding named_of
-    named-number e = rw (lt-ltb (action_named names word) 255 h, e)
-
-    pub named_none : ltb (action_named names word) (length names) ≡ false → named_of names word ≡ 255
-    unfolding named_of
-    named_none e = rw (lt-ltb (action_named names word) 255 h, e)
-
-  -- The action that a word is: by its name, or its number.
-  pub asked-name : is_name word ≡ true → asked_of names word ≡ named_of names word
-  unfolding asked_of
-  asked-name e = rw e
-
-  module _ (n : is_name word ≡ false) where
-    pub asked-number : unpadded word ≡ true → asked_of names word ≡ number_from 0 word
-    unfolding asked_of
-    asked-number e = rw (n, e)
-
-    pub asked-none : unpadded word ≡ false → asked_of names word ≡ 255
-    unfolding asked_of
-    asked-none e = rw (n, e)
 
 -- A list that is read in part: what is left, and what was read.
 pub record Asked (names words left : List Word) (size : ℕ) (list : List ℕ) (count : ℕ) : Type 0 where

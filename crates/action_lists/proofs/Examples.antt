@@ -6,23 +6,23 @@ use mathlib.Core.List.{[]}
 use Rattle.fields.specs.Fields.{split_by}
 use Rattle.grammar.specs.Words.{words_of}
 use Rattle.grammar.specs.Spelling.{word, token_of, whether}
-use Rattle.action_lists.specs.declared.SetRead.TheVariants.{Set, Wrong}
+use Rattle.std.proofs.Common.{Some, None}
 use Rattle.action_lists.specs.ActionLists.{proposition_of, with_all, set_of, all_plain, is_name, name_of, action_of, action_named}
 use Rattle.action_lists.specs.AskedLists.{unpadded, number_from, named_of, asked_of}
 
-two-propositions : set_of (word "p0+p2") ≡ Set 5
+two-propositions : set_of (word "p0+p2") ≡ Some 5
 unfolding set_of with_all proposition_of split_by token_of whether
 two-propositions = refl
 
-no-proposition : set_of (word "-") ≡ Set 0
+no-proposition : set_of (word "-") ≡ Some 0
 unfolding set_of
 no-proposition = refl
 
-no-set : set_of (word "p0+") ≡ Wrong
+no-set : set_of (word "p0+") ≡ None
 unfolding set_of with_all proposition_of split_by token_of whether
 no-set = refl
 
-named-action : action_of (word "gas=p4") ≡ Set 16
+named-action : action_of (word "gas=p4") ≡ Some 16
 unfolding action_of name_of is_name all_plain set_of with_all proposition_of split_by token_of whether
 named-action = refl
 

@@ -1,47 +1,24 @@
 -- The name of a word, and the first word that has a name.
 -- Assumes nothing.
 use mathlib.Core.Path.{◌≡◌, refl, sym, ap, ◌∙◌}
-use mathlib.Core.Bool.{Bool, true, false, cond, not, ◌&&◌}
+use mathlib.Core.Bool.{Bool, true, false, cond}
 use mathlib.Core.List.{List, [], ◌∷◌}
-use Prim.Native.Nat.{ℕ, zero, suc, ◌+◌, ◌-◌, ◌≤◌, ◌<◌}
-use native.Mathlib.Numerals.{add-one}
+use Prim.Native.Nat.{ℕ, zero, suc, ◌+◌, ◌-◌, ◌<◌}
 use native.Mathlib.Omega.{arith}
-use lib.Dec.{eqb, ltb}
-use lib.ListN.{length, get_or, take, drop, length-take, length-drop, drop_of_length-le}
-use lib.Seq.{drop-cons, take-take, length-take-le}
+use lib.ListN.{length, get_or, take, drop}
+use lib.Seq.{length-take-le}
 use borrow.Author.Tests.{eq-eqb, ne_eqb}
-use Rattle.fields.specs.Fields.{between, EndsField}
+use Rattle.fields.specs.Fields.{EndsField}
 use Rattle.fields.proofs.Fielding.{first_field}
 use Rattle.grammar.specs.Words.{Word}
-use Rattle.grammar.specs.Spelling.{is_digit, is_plain, same}
-use Rattle.positions.specs.Positions.{WordAt}
-use Rattle.action_lists.specs.declared.SetRead.TheVariants.{Wrong}
-use Rattle.action_lists.specs.ActionLists.{is_letter, all_plain, is_name, is_doubled, name_of, NameEnds, set_of, action_of, action_named, own_name, NameTakes, NameStands}
-
--- A byte more of a word of small letters and digits.
-module _ (word : Word) (k : ℕ) (h : k < length word) where
-  pub plain_byte : is_plain (get_or word k 0) ≡ true → all_plain (drop k word) ≡ all_plain (drop (k + 1) word)
-  unfolding all_plain
-  plain_byte e = rw (add-one, drop-cons word k 0, e)
-
-  pub other_byte : is_plain (get_or word k 0) ≡ false → all_plain (drop k word) ≡ false
-  unfolding all_plain
-  other_byte e = rw (drop-cons word k 0, e)
-
-pub plain_end : (word : Word) (k : ℕ) → length word ≤ k → all_plain (drop k word) ≡ true
-unfolding all_plain
-plain_end word k h = rw (drop_of_length-le word h)
-
--- A name, by what its bytes are found to be.
-pub name_by : (word : Word) {first second : ℕ} {letter digit plain : Bool} → first ≡ get_or word 0 0 → second ≡ get_or word 1 0 → letter ≡ is_letter first → digit ≡ is_digit second
-    → plain ≡ all_plain word → letter && (not (eqb first 112 && digit) && plain) ≡ is_name word
-unfolding is_name
-name_by word f s l d p = rw (l, d, p, f, s)
+use Rattle.grammar.specs.Spelling.{same}
+use Rattle.std.proofs.Common.{None}
+use Rattle.action_lists.specs.ActionLists.{is_name, name_of, NameEnds, set_of, action_of, action_named}
 
 -- The name ends with the first field.
-pub name-ends : {word : Word} {end : ℕ} → EndsField 61 word 0 end → NameEnds word end
+pub name_ends : {word : Word} {end : ℕ} → EndsField 61 word 0 end → NameEnds word end
 unfolding name_of
-name-ends {word} {end} e =
+name_ends {word} {end} e =
     let z : end - 0 ≡ end = omega arith in
     record { within = e.within; name = sym (rw z at (first_field e)) }
 
@@ -59,14 +36,9 @@ module _ {word : Word} {end : ℕ} (e : NameEnds word end) where
     unfolding action_of
     named n = rw (ne_eqb (length (name_of word)) (length word) (λ q. h (sym name-long ∙ q)), ← e.name, n, length-take-le end word e.within)
 
-    pub misnamed : is_name (take end word) ≡ false → action_of word ≡ Wrong
+    pub misnamed : is_name (take end word) ≡ false → action_of word ≡ None
     unfolding action_of
     misnamed n = rw (ne_eqb (length (name_of word)) (length word) (λ q. h (sym name-long ∙ q)), ← e.name, n)
-
--- An earlier word with the same name, by what is found of the name.
-pub doubled-by : (words : List Word) (word : Word) {name : Word} {is : Bool} {first : ℕ} (number : ℕ) → name ≡ name_of word → is ≡ is_name name → first ≡ action_named words name
-    → is && ltb first number ≡ is_doubled words word number
-doubled-by words word number e i f = rw (i, f, e)
 
 -- A scan of a list that has come to a word, or to the end.
 pub named-nowhere : (words : List Word) (name : Word) → words ≡ [] → action_named words name ≡ 0
@@ -103,25 +75,3 @@ has-it (word ∷ words) name h = by (same (name_of word) name) refl (has-it word
         → cond b 0 (suc (action_named words name)) < length (word ∷ words) → same (name_of (get_or (word ∷ words) (cond b 0 (suc (action_named words name))) [])) name ≡ true
     by true e f h = e
     by false e f h = f (omega arith)
-
--- A word's own name, where what stands before its `=` is a name.
-module _ {word : Word} {end : ℕ} (e : NameEnds word end) where
-  pub own-name : is_name (take end word) ≡ true → NameTakes word end
-  unfolding own_name
-  own-name n = record { within = e.within; name = rw (← e.name, n) }
-
-  pub no-own-name : is_name (take end word) ≡ false → NameTakes word 0
-  unfolding own_name
-  no-own-name n = record { within = omega arith; name = rw (← e.name, n) }
-
--- The name of a word of a list stands within the list.
-pub name-stands : {list : List ℕ} {number from to end : ℕ} → WordAt list number from to → NameTakes (between list from to) end → NameStands list number from (from + end)
-name-stands {list} {number} {from} {to} {end} w e =
-    let z : (from + end) - from ≡ end = omega arith in
-    let l : length (between list from to) ≡ to - from = simp (length-take, length-drop) (omega (arith, w.within)) in
-    let h : end ≤ to - from = omega (arith, e.within) in
-    record {
-      onward = omega arith;
-      within = omega (arith, w.onward, w.within);
-      name = rw (z, ← take-take end (to - from) (drop from list) h) (e.name ∙ ap own_name w.word);
-    }

@@ -9,14 +9,11 @@ use native.Mathlib.Omega.{arith}
 use lib.ListN.{length, get_or, set}
 use lib.Seq.{get_or-set_same, get_or-set_other}
 use Rattle.grammar.specs.Words.{Word}
-use Rattle.action_lists.specs.declared.SetRead.TheVariants.{Set}
+use Rattle.std.proofs.Common.{Some}
 use Rattle.action_lists.specs.ActionLists.{action_of, is_doubled, Actions}
 
-pub none_read : (words : List Word) (sets : List ℕ) → Actions words sets 0
-none_read words sets = record { there = omega arith; each = λ j h. absurd (omega arith); apart = λ j h. absurd (omega arith) }
-
 module _ {words : List Word} {sets : List ℕ} {count : ℕ} (a : Actions words sets count) where
-  pub one-read : {value : ℕ} → count < length sets → count < length words → action_of (get_or words count []) ≡ Set value → is_doubled words (get_or words count []) count ≡ false
+  pub one-read : {value : ℕ} → count < length sets → count < length words → action_of (get_or words count []) ≡ Some value → is_doubled words (get_or words count []) count ≡ false
       → Actions words (set sets count value) (count + 1)
   one-read {value} room h e d =
       record {

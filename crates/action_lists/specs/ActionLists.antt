@@ -1,18 +1,14 @@
 -- The action list: a line of words, each the propositions of an action (p0+p2, or - for none), after its name and `=` where it has one (gas=p4).
 -- Assumes nothing.
-use Rattle.std.specs.Prelude.{◌≡◌, Bool, true, false, cond, not, ◌&&◌, List, [], ◌∷◌, ℕ, suc, ◌+◌, ◌^◌, ◌≤◌, ◌<◌, eqb, leb, ltb, length, get_or, take, drop}
+use Rattle.std.specs.Prelude.{◌≡◌, Bool, true, false, cond, not, ◌&&◌, List, [], ◌∷◌, ℕ, suc, ◌+◌, ◌^◌, ◌≤◌, ◌<◌, eqb, leb, ltb, length, get_or, take, drop, Option, Some, None, Result, Ok, Err}
 use Rattle.std.specs.Int.Bits.{bit_or}
-use Rattle.fields.specs.Fields.{split_by, between}
-use Rattle.grammar.specs.Words.{Word, words_of}
+use Rattle.fields.specs.Fields.{split_by}
+use Rattle.grammar.specs.Words.{Word}
 use Rattle.grammar.specs.Spelling.{is_digit, is_plain, same, token_of}
 use Rattle.grammar.specs.declared.Token.{Token}
 use Rattle.grammar.specs.declared.Token.TheVariants.{Watch, Enforce, Now, Holds, Count, Not, And, Or, Eventually, Always, Before, After, Fulfilling, Ignoring, True, False, Proposition, Number, Other}
-use Rattle.action_lists.specs.declared.SetRead.{SetRead}
-use Rattle.action_lists.specs.declared.SetRead.TheVariants.{Set, Wrong}
-use Rattle.action_lists.specs.declared.Found.{Found}
-use Rattle.action_lists.specs.declared.Found.TheVariants as found
-use Rattle.action_lists.specs.declared.Listed.{Listed}
-use Rattle.action_lists.specs.declared.Listed.TheVariants.{All, Nothing, TooMany, WrongAt, DoubledAt}
+use Rattle.action_lists.specs.declared.ListError.{ListError}
+use Rattle.action_lists.specs.declared.ListError.TheVariants.{Nothing, TooMany, WrongAt, DoubledAt}
 
 -- the number of a proposition; 100 for any other word
 unfoldable pub proposition_of : Token → ℕ
@@ -37,13 +33,13 @@ proposition_of (Number k) = 100
 proposition_of Other = 100
 
 -- a set with the propositions p0 to p15 that words are
-unfoldable pub with_all : (set : ℕ) → List Word → SetRead
-with_all set [] = Set set
-with_all set (word ∷ words) = cond (leb (proposition_of (token_of word)) 15) (with_all (bit_or set (2 ^ proposition_of (token_of word))) words) Wrong
+unfoldable pub with_all : (set : ℕ) → List Word → Option ℕ
+with_all set [] = Some set
+with_all set (word ∷ words) = cond (leb (proposition_of (token_of word)) 15) (with_all (bit_or set (2 ^ proposition_of (token_of word))) words) None
 
 -- The propositions of an action: `-`, or propositions joined by `+`.
-unfoldable pub set_of : Word → SetRead
-set_of word = cond (same word (45 ∷ [])) (Set 0) (with_all 0 (split_by 43 word))
+unfoldable pub set_of : Word → Option ℕ
+set_of word = cond (same word (45 ∷ [])) (Some 0) (with_all 0 (split_by 43 word))
 
 -- A name: small letters and digits alone, a letter first, and not `p` with a digit after it, as propositions begin.
 abbrev pub is_letter : ℕ → Bool
@@ -65,10 +61,10 @@ pub record NameEnds (word : Word) (end : ℕ) : Type 0 where
   pub name : take end word ≡ name_of word
 
 -- An action: its propositions, after its name where there is an `=`.
-unfoldable pub action_of : Word → SetRead
+unfoldable pub action_of : Word → Option ℕ
 action_of word =
     cond (eqb (length (name_of word)) (length word)) (set_of word)
-    (cond (is_name (name_of word)) (set_of (drop (length (name_of word) + 1) word)) Wrong)
+    (cond (is_name (name_of word)) (set_of (drop (length (name_of word) + 1) word)) None)
 
 -- The number of the first word that has a name, from 0; the number of words where none has it.
 unfoldable pub action_named : List Word → Word → ℕ
@@ -79,17 +75,8 @@ action_named (word ∷ words) name = cond (same (name_of word) name) 0 (suc (act
 unfoldable pub own_name : Word → Word
 own_name word = cond (is_name (name_of word)) (name_of word) []
 
-pub record NameTakes (word : Word) (end : ℕ) : Type 0 where
-  pub within : end ≤ length word
-  pub name : take end word ≡ own_name word
-
 abbrev pub name_at : List Word → ℕ → Word
 name_at words number = own_name (get_or words number [])
-
-pub record NameStands (list : List ℕ) (number from to : ℕ) : Type 0 where
-  pub onward : from ≤ to
-  pub within : to ≤ length list
-  pub name : between list from to ≡ name_at (words_of list) number
 
 -- The word of a number has a name, and the first word with that name is an earlier one.
 abbrev pub is_doubled : List Word → (word : Word) → (number : ℕ) → Bool
@@ -98,27 +85,20 @@ is_doubled words word number = is_name (name_of word) && ltb (action_named words
 -- The words before a number are actions, with these sets, and none has the name of an earlier one.
 pub record Actions (words : List Word) (sets : List ℕ) (count : ℕ) : Type 0 where
   pub there : count ≤ length words
-  pub each : (j : ℕ) → j < count → action_of (get_or words j []) ≡ Set (get_or sets j 0)
+  pub each : (j : ℕ) → j < count → action_of (get_or words j []) ≡ Some (get_or sets j 0)
   pub apart : (j : ℕ) → j < count → is_doubled words (get_or words j []) j ≡ false
 
 -- How a list is read: 1 to 16 actions; no words; more than 16; a word that is no action; an action with the name of an earlier one.
-abbrev pub ListReads : List Word → (sets : List ℕ) → Listed → Type 0
-ListReads words sets (All n) = (1 ≤ n) × (n ≤ 16) × (length words ≡ n) × Actions words sets n
-ListReads words sets Nothing = length words ≡ 0
-ListReads words sets TooMany = (16 < length words) × Actions words sets 16
-ListReads words sets (WrongAt k) = (k < 16) × Actions words sets k × (k < length words) × (action_of (get_or words k []) ≡ Wrong)
-ListReads words sets (DoubledAt k) =
-    (k < 16) × Actions words sets k × (k < length words) × ((set : ℕ) × (action_of (get_or words k []) ≡ Set set)) × (is_doubled words (get_or words k []) k ≡ true)
+abbrev pub ListReads : List Word → (sets : List ℕ) → Result ℕ ListError → Type 0
+ListReads words sets (Ok n) = (1 ≤ n) × (n ≤ 16) × (length words ≡ n) × Actions words sets n
+ListReads words sets (Err Nothing) = length words ≡ 0
+ListReads words sets (Err TooMany) = (16 < length words) × Actions words sets 16
+ListReads words sets (Err (WrongAt k)) = (k < 16) × Actions words sets k × (k < length words) × (action_of (get_or words k []) ≡ None)
+ListReads words sets (Err (DoubledAt k)) =
+    (k < 16) × Actions words sets k × (k < length words) × ((set : ℕ) × (action_of (get_or words k []) ≡ Some set)) × (is_doubled words (get_or words k []) k ≡ true)
 
 -- Sets are kept in the first 16 numbers of a lent area.
-pub record ReadsActions (words : List Word) (old new : List ℕ) (listed : Listed) : Type 0 where
+pub record ReadsActions (words : List Word) (old new : List ℕ) (listed : Result ℕ ListError) : Type 0 where
   pub sized : length new ≡ length old
   pub unchanged : drop 16 new ≡ drop 16 old
   pub read : ListReads words new listed
-
--- What the word of a number is found to be, on the way.
-abbrev pub FoundAt : List Word → ℕ → Found → Type 0
-FoundAt words k (found.Action set) = (k < length words) × (action_of (get_or words k []) ≡ Set set) × (is_doubled words (get_or words k []) k ≡ false)
-FoundAt words k found.Wrong = (k < length words) × (action_of (get_or words k []) ≡ Wrong)
-FoundAt words k (found.Doubled set) = (k < length words) × (action_of (get_or words k []) ≡ Set set) × (is_doubled words (get_or words k []) k ≡ true)
-FoundAt words k found.Nothing = length words ≤ k

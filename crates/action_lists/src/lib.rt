@@ -10,26 +10,9 @@ pub use actions::read_actions;
 pub use asked::{first_outside, read_list};
 pub use names::{action_named, is_name, name_at};
 
-// What a word is: an action's set of propositions, or no action.
+// Why a list is no action list: it has no words, more than 16, a word that is no action, or one that has the name of an earlier one.
 #[derive(Clone, Copy)]
-pub enum SetRead {
-    Set(u16),
-    Wrong,
-}
-
-// What the word of a number is: an action, one with the name of an earlier one, a word that is no action, or none.
-#[derive(Clone, Copy)]
-enum Found {
-    Action(u16),
-    Doubled(u16),
-    Wrong,
-    Nothing,
-}
-
-// How a list was read: so many actions, no words, more than 16, a word that is no action, or one that has the name of an earlier one.
-#[derive(Clone, Copy)]
-pub enum Listed {
-    All(usize),
+pub enum ListError {
     Nothing,
     TooMany,
     WrongAt(usize),

@@ -1,65 +1,33 @@
 // The names of actions.
-ghost use Rattle.std.specs.Prelude.{◌≡◌, get_or};
+ghost use Rattle.std.specs.Prelude.{◌≡◌};
 ghost use Rattle.grammar.specs.Words.{words_of};
-ghost use Rattle.grammar.specs.Spelling.{is_digit, is_plain};
-ghost use Rattle.action_lists.specs.ActionLists.{is_letter, all_plain, is_name, name_of, NameEnds, NameTakes, action_named, NameStands};
+ghost use Rattle.action_lists.specs.ActionLists.{all_plain, is_name, name_of, own_name, NameEnds, action_named, name_at};
 
-use fields::{Span, find, front};
-use lexer::{pass_blanks, same, word_end};
-use positions::word_at;
+use fields::{find, front};
+use lexer::{pass_blanks, word_end};
+use positions::word_of;
 
-pub fn is_digit(byte: u8) -> bool
-    ensures { result ≡ is_digit byte }
-{
-    (48 <= byte) & (byte <= 57)
-}
-
-fn is_letter(byte: u8) -> bool
-    ensures { result ≡ is_letter byte }
-{
-    (97 <= byte) & (byte <= 122)
-}
-
-fn is_plain(byte: u8) -> bool
-    ensures { result ≡ is_plain byte }
-{
-    ((48 <= byte) & (byte <= 57)) | ((97 <= byte) & (byte <= 122))
-}
-
+// Whether a word is of small letters and digits.
 fn all_plain(word: &[u8]) -> bool
     ensures { result ≡ all_plain word.now }
 {
-    let mut k = 0;
-    while k < word.len() {
-        if is_plain(word[k]) {
-            k += 1;
-        } else {
-            return false;
-        }
-    }
-    true
-}
-
-// The byte at a place, 0 behind the last one.
-fn byte_at(word: &[u8], place: usize) -> u8
-    ensures { result ≡ get_or word.now place 0 }
-{
-    if place < word.len() {
-        return word[place];
-    }
-    0
+    word.iter()
+        .all(|byte| byte.is_ascii_digit() || byte.is_ascii_lowercase())
 }
 
 // Whether a word is a name.
+#[tactic(auto, unfolding(crate::specs::ActionLists::is_name, crate::specs::ActionLists::all_plain))]
 pub fn is_name(word: &[u8]) -> bool
     ensures { result ≡ is_name word.now }
 {
-    let first = byte_at(word, 0);
-    let second = byte_at(word, 1);
-    is_letter(first) & (!((first == b'p') & is_digit(second)) & all_plain(word))
+    match word {
+        [] | [b'p', b'0'..=b'9', ..] => false,
+        [first, ..] => first.is_ascii_lowercase() && all_plain(word),
+    }
 }
 
 // Where the name of a word ends.
+#[tactic(auto, using(crate::proofs::Naming::name_ends))]
 pub fn name_end(word: &[u8]) -> usize
     ensures { NameEnds word.now result }
 {
@@ -71,13 +39,6 @@ pub fn name_of(word: &[u8]) -> &[u8]
     ensures { result.now ≡ name_of word.now }
 {
     front(word, name_end(word))
-}
-
-// Whether a word has a name.
-fn has_name(word: &[u8], name: &[u8]) -> bool
-    ensures { result ≡ Rattle.grammar.specs.Spelling.same (name_of word.now) name.now }
-{
-    same(name_of(word), name)
 }
 
 // The number of the first word of a list that has a name; the number of words where none has it.
@@ -92,7 +53,7 @@ pub fn action_named(list: &[u8], name: &[u8]) -> usize
             return number;
         }
         let to = word_end(list, from);
-        if has_name(&list[from..to], name) {
+        if name_of(&list[from..to]) == name {
             return number;
         }
         number += 1;
@@ -100,24 +61,18 @@ pub fn action_named(list: &[u8], name: &[u8]) -> usize
     }
 }
 
-// How many bytes the name of an action has, where a word is the action's: none where it has no name.
-fn name_length(word: &[u8]) -> usize
-    ensures { NameTakes word.now result }
+// The name of an action, where a word is the action's: nothing where it has no name.
+#[tactic(auto, unfolding(crate::specs::ActionLists::own_name))]
+fn own_name(word: &[u8]) -> &[u8]
+    ensures { result.now ≡ own_name word.now }
 {
-    let end = name_end(word);
-    if is_name(front(word, end)) {
-        return end;
-    }
-    0
+    let name = name_of(word);
+    if is_name(name) { name } else { &[] }
 }
 
-// Where the name of an action stands in a list. It is empty where the action has none.
-pub fn name_at(list: &[u8], number: usize) -> Span
-    ensures { NameStands list.now number result.from result.to }
+// The name of the action of this number in a list: nothing where the action has none.
+pub fn name_at(list: &[u8], number: usize) -> &[u8]
+    ensures { result.now ≡ name_at (words_of list.now) number }
 {
-    let word = word_at(list, number);
-    let from = word.from;
-    let to = word.to;
-    let end = from + name_length(&list[from..to]);
-    Span { from, to: end }
+    own_name(word_of(list, number))
 }

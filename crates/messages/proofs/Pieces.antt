@@ -1,16 +1,14 @@
 -- Pieces by their cases, and by one byte more.
 -- Assumes nothing.
 use mathlib.Core.Path.{◌≡◌, refl, sym, ap, ◌∙◌}
-use mathlib.Core.Bool.{true, false, ◌&&◌}
 use mathlib.Core.List.{List, [], ◌∷◌, ◌++◌, append_assoc, append-nil}
-use Prim.Native.Nat.{ℕ, ◌+◌, ◌/◌, ◌%◌, ◌≤◌, ◌<◌}
+use Prim.Native.Nat.{ℕ, ◌+◌, ◌/◌, ◌≤◌, ◌<◌}
 use native.Mathlib.Numerals.{add-one}
 use native.Mathlib.Omega.{arith}
-use borrow.Author.Tests.{lt-ltb, le-ltb, eq-eqb, ne_eqb}
-use lib.Dec.{leb}
+use borrow.Author.Tests.{lt-ltb, le-ltb}
 use lib.ListN.{length, take, get_or}
 use lib.Seq.{take-suc, take-length}
-use Rattle.messages.specs.Message.{digit, short, three, decimal, hexadecimal, shown, all_shown, quoted, hole, filled}
+use Rattle.messages.specs.Message.{digit, short, three, decimal, shown, all_shown, quoted, hole, filled}
 
 -- numbers by their size
 pub short-one : (n : ℕ) → n < 10 → digit n ≡ short n
@@ -29,19 +27,6 @@ decimal-low n h = rw (lt-ltb n 1000 h)
 pub decimal-high : (n : ℕ) → 1000 ≤ n → short (n / 1000) ++ three n ≡ decimal n
 unfolding decimal
 decimal-high n h = rw (le-ltb n 1000 h)
-
-pub hexadecimal-low : (n : ℕ) → n < 10 → 48 + n ≡ hexadecimal n
-hexadecimal-low n h = simp (lt-ltb n 10 h)
-
-pub hexadecimal-high : (n : ℕ) → 10 ≤ n → 87 + n ≡ hexadecimal n
-hexadecimal-high n h = simp (le-ltb n 10 h)
-
--- bytes by whether they print
-pub shown-plain : (byte : ℕ) → leb 32 byte && leb byte 126 ≡ true → byte ∷ [] ≡ shown byte
-shown-plain byte e = rw e
-
-pub shown-code : (byte : ℕ) → leb 32 byte && leb byte 126 ≡ false → 92 ∷ 120 ∷ hexadecimal (byte / 16) ∷ hexadecimal (byte % 16) ∷ [] ≡ shown byte
-shown-code byte e = rw e
 
 pub quoted-long : (w : List ℕ) → 40 < length w → 34 ∷ (all_shown (take 40 w) ++ (46 ∷ 46 ∷ 34 ∷ [])) ≡ quoted w
 unfolding quoted
@@ -89,25 +74,3 @@ module _ (first second : ℕ) (word : List ℕ) where
       → filled (take k m) first second word ++ hole (get_or m k 0) first second word ≡ filled (take (k + 1) m) first second word
   filled_more m k h =
       rw (add-one k, take-suc m k 0) (sym (filled-append (take k m) (get_or m k 0 ∷ []) ∙ ap (λ (l : List ℕ). filled (take k m) first second word ++ l) (filled-one (get_or m k 0))))
-
--- the holes
-module _ (byte first second : ℕ) (word : List ℕ) where
-  pub hole-first : byte ≡ 35 → decimal first ≡ hole byte first second word
-  unfolding hole
-  hole-first e = rw (eq-eqb byte 35 e)
-
-  pub hole-second : (byte ≡ 35 → ⊥) → byte ≡ 37 → decimal second ≡ hole byte first second word
-  unfolding hole
-  hole-second n e = rw (ne_eqb byte 35 n, eq-eqb byte 37 e)
-
-  pub hole-quoted : (byte ≡ 35 → ⊥) → (byte ≡ 37 → ⊥) → byte ≡ 64 → quoted word ≡ hole byte first second word
-  unfolding hole
-  hole-quoted n m e = rw (ne_eqb byte 35 n, ne_eqb byte 37 m, eq-eqb byte 64 e)
-
-  pub hole-word : (byte ≡ 35 → ⊥) → (byte ≡ 37 → ⊥) → (byte ≡ 64 → ⊥) → byte ≡ 126 → word ≡ hole byte first second word
-  unfolding hole
-  hole-word n m l e = rw (ne_eqb byte 35 n, ne_eqb byte 37 m, ne_eqb byte 64 l, eq-eqb byte 126 e)
-
-  pub hole-none : (byte ≡ 35 → ⊥) → (byte ≡ 37 → ⊥) → (byte ≡ 64 → ⊥) → (byte ≡ 126 → ⊥) → byte ∷ [] ≡ hole byte first second word
-  unfolding hole
-  hole-none n m l k = rw (ne_eqb byte 35 n, ne_eqb byte 37 m, ne_eqb byte 64 l, ne_eqb byte 126 k)

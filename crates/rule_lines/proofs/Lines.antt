@@ -8,8 +8,6 @@ use native.Mathlib.Decide.{ℕ_discrete}
 use native.Mathlib.Omega.{arith}
 use lib.Dec.{eqb}
 use lib.ListN.{length, drop, length-take, length-drop}
-use Rattle.std.specs.Cmp.Lexicographic.{pointwise}
-use Rattle.grammar.specs.Spelling.{same}
 use Rattle.fields.specs.Fields.{lengthen_first, split_by, fields_from, between, EndsField}
 use Rattle.rule_lines.specs.RuleFiles.{is_separator, newline_before, rule_length}
 
@@ -58,10 +56,3 @@ module _ {file : List ℕ} {k end : ℕ} (e : EndsField 10 file k end) where
   rule-ends f p =
       let here : rule_length (fields_from 10 file k) ≡ length (between file k end) + (newline_before [] + rule_length []) = rw (e.last p) (goes [] f) in
       omega (arith, here, line-length file k end e.onward e.within, none_left, e.onward)
-
--- two words are the same where their bytes are
-pub same_bytes : (v w : List ℕ) → pointwise eqb v w ≡ same v w
-same_bytes [] [] = refl
-same_bytes [] (b ∷ w) = refl
-same_bytes (a ∷ v) [] = refl
-same_bytes (a ∷ v) (b ∷ w) = rw (same_bytes v w)

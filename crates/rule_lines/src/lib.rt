@@ -16,7 +16,7 @@ pub fn is_sheet(bytes: &[u8]) -> bool
 }
 
 // Whether a line separates two rules.
-#[tactic(auto, using(crate::proofs::Lines::same_bytes), unfolding(crate::specs::RuleFiles::is_separator))]
+#[tactic(auto, using(lexer::proofs::Spelled::same_bytes), unfolding(crate::specs::RuleFiles::is_separator))]
 fn separates(line: &[u8]) -> bool
     ensures { result ≡ is_separator line.now }
 {

@@ -1,5 +1,7 @@
 -- The goals of `action_lists::asked::read_list` that the check leaves.
 use native.Mathlib.Omega.{arith}
+use mathlib.Core.Path.{◌≡◌, ◌∙◌}
+use lib.ListN.{length}
 use borrow.Author.Rules.{rules}
 use Rattle.positions.proofs.Counting.{none_left, one_left}
 use Rattle.action_lists.proofs.Asking.{none-asked, one-asked, words-end, room-ends}
@@ -14,10 +16,12 @@ word_end-to-requires c = (search rules, c.pass_blanks-from.ensures.solid (search
 pub loop-count-preserved : goal.loop-count-preserved
 loop-count-preserved c =
     let i = c.loop-count.invariant in
-    one-asked i (omega (arith, i.sized)) (one_left c.pass_blanks-from.ensures c.word_end-to.ensures) c.read_asked.ensures
+    one-asked i (omega (arith, i.sized)) (one_left c.pass_blanks-from.ensures c.word_end-to.ensures) (c.unwrap_or.ensures ∙ c.read_asked.ensures)
 
 pub returns : goal.returns
-returns c = room-ends _ c.loop-count.invariant (omega arith)
+returns c =
+    let e : c.loop-count.count ≡ length c.loop-count.list = omega (arith, c.loop-count.invariant.sized) in
+    rw (← e) (room-ends _ c.loop-count.invariant (omega arith))
 
 pub loop-count-init : goal.loop-count-init
 loop-count-init c = none-asked _ _ _

@@ -1,5 +1,4 @@
 -- `action_lists::asked::read_list` meets its contract. The loop's invariant: the actions of the first words are read, and those from `at` on are left.
-use Prim.Native.Nat.{◌-◌}
 use lib.ListN.{length}
 use Rattle.grammar.specs.Words.{words_of}
 use Rattle.lexer.specs.Next.{words_from}
@@ -8,6 +7,3 @@ use Rattle.action_lists.proofs.asked.read_list.Given as goal
 
 abbrev pub invariant-loop-count : goal.invariant-loop-count
 invariant-loop-count l = Asked (words_of l.names) (words_of l.line) (words_from l.line l.at) (length l.initial.list) l.list l.count
-
-abbrev pub decreases-loop-count : goal.decreases-loop-count
-decreases-loop-count l = length l.initial.list - l.count

@@ -1,7 +1,7 @@
 -- The goals of `action_lists::names::action_named` that the check leaves.
-use mathlib.Core.Path.{sym, ◌∙◌}
 use native.Mathlib.Omega.{arith}
 use borrow.Author.Rules.{rules}
+use Rattle.lexer.proofs.Spelled.{same_bytes}
 use Rattle.positions.proofs.Counting.{none_left, one_left}
 use Rattle.action_lists.proofs.Naming.{named_here, named-later, named-nowhere}
 use Rattle.action_lists.proofs.names.action_named.Goals as goal
@@ -12,17 +12,17 @@ returns-then-list-from c = omega (arith, named-nowhere _ c.args.name.now (none_l
 pub word_end-to-requires : goal.word_end-to-requires
 word_end-to-requires c = (search rules, c.pass_blanks-from.ensures.solid (search rules))
 
-pub returns-then-has_name : goal.returns-then-has_name
-returns-then-has_name c =
+pub returns-then-eq : goal.returns-then-eq
+returns-then-eq c =
     let w = one_left c.pass_blanks-from.ensures c.word_end-to.ensures in
-    omega (arith, named_here w c.args.name.now (sym c.has_name.ensures ∙ c.if-has_name.true))
+    omega (arith, named_here w c.args.name.now (grind (arith, same_bytes)))
 
-pub loop-number-preserved : goal.loop-number-preserved
-loop-number-preserved c =
+pub loop-name-preserved : goal.loop-name-preserved
+loop-name-preserved c =
     let b = c.pass_blanks-from.ensures in
     let e = c.word_end-to.ensures in
-    let n = named-later (one_left b e) c.args.name.now (sym c.has_name.ensures ∙ c.if-has_name.false) in
+    let n = named-later (one_left b e) c.args.name.now (grind (arith, same_bytes)) in
     (e.within, omega (arith, b.onward, e.onward), omega (arith, n))
 
-pub loop-number-init : goal.loop-number-init
-loop-number-init c = (search rules, search rules, omega arith)
+pub loop-name-init : goal.loop-name-init
+loop-name-init c = (search rules, search rules, omega arith)

@@ -1,21 +1,10 @@
--- The goals of `action_lists::names::all_plain` that the check leaves.
-use mathlib.Core.Path.{refl, sym, ◌∙◌}
-use native.Mathlib.Omega.{arith}
-use Rattle.action_lists.proofs.Naming.{plain_byte, other_byte, plain_end}
+-- `action_lists::names::all_plain` meets its contract.
+use Rattle.std.proofs.Common.{rules, refl}
+use Rattle.std.proofs.lemmas.List.Recursion.{and_is}
+use Rattle.grammar.specs.Spelling.{is_plain}
+use Rattle.action_lists.specs.ActionLists.{all_plain}
 use Rattle.action_lists.proofs.names.all_plain.Goals as goal
 
-pub loop-k-preserved : goal.loop-k-preserved
-loop-k-preserved c =
-    let l = c.loop-k in
-    l.invariant ∙ plain_byte _ l.k (omega arith) (sym c.is_plain.ensures ∙ c.if-is_plain.true)
-
-pub returns-else-is_plain : goal.returns-else-is_plain
-returns-else-is_plain c =
-    let l = c.loop-k in
-    sym (l.invariant ∙ other_byte _ l.k (omega arith) (sym c.is_plain.ensures ∙ c.if-is_plain.false))
-
 pub returns : goal.returns
-returns c = sym (c.loop-k.invariant ∙ plain_end _ c.loop-k.k (omega arith))
-
-pub loop-k-init : goal.loop-k-init
-loop-k-init c = refl
+unfolding all_plain
+returns c = and_is all_plain is_plain refl (λ _ _. refl) c.args.word.now 0 _ (search rules) (search rules)

@@ -6,8 +6,8 @@ use Rattle.fields.specs.Fields.{split_by, fields_from}
 use Rattle.action_lists.specs.ActionLists.{with_all}
 use Rattle.action_lists.proofs.sets.read_joined.Given as goal
 
-abbrev pub invariant-loop-set : goal.invariant-loop-set
-invariant-loop-set l = (l.from ≤ length l.word) × (with_all l.set (fields_from 43 l.word l.from) ≡ with_all 0 (split_by 43 l.word))
+abbrev pub invariant-loop-number : goal.invariant-loop-number
+invariant-loop-number l = (l.from ≤ length l.word) × (with_all l.set (fields_from 43 l.word l.from) ≡ with_all 0 (split_by 43 l.word))
 
-abbrev pub decreases-loop-set : goal.decreases-loop-set
-decreases-loop-set l = length l.word - l.from
+abbrev pub decreases-loop-number : goal.decreases-loop-number
+decreases-loop-number l = length l.word - l.from
