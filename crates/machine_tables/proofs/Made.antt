@@ -2,19 +2,21 @@
 -- Assumes nothing.
 use mathlib.Core.Path.{◌≡◌, refl, subst}
 use mathlib.Core.List.{List, [], ◌++◌}
+use Rattle.std.proofs.Common.{Err}
 use Prim.Native.Nat.{ℕ, ◌*◌, ◌≤◌}
 use native.Mathlib.Nat.{le_trans}
 use lib.ListN.{length, take, drop}
 use Rattle.trace.specs.Trace.{Step}
 use Rattle.limits.specs.declared.Limits.{Limits}
-use Rattle.table.specs.Answer.{accepted, refused}
+use Rattle.table.specs.Answer.{accepted}
 use Rattle.making.specs.Making.{WritesTo}
 use Rattle.rules.specs.Rules.{slot_at}
-use Rattle.explore.specs.Explored.{OverReached}
-use Rattle.machine_rows.specs.Machines.{OverStates, RowsFor}
-use Rattle.machine_rows.specs.Builds.{SlotWritten}
+use Rattle.machine_rows.specs.Machines.{RowsFor}
+use Rattle.machine_rows.specs.Builds.{SlotWritten, BuildsTo}
+use Rattle.machine_rows.specs.declared.OverLimit.{OverLimit}
+use Rattle.machine_rows.specs.declared.OverLimit.TheVariants.{Values, Rows}
 use Rattle.machine_tables.specs.Slots.{slot_table}
-use Rattle.machine_tables.specs.Makes.{MachineMakes, many-values, many-states, makes-rows}
+use Rattle.machine_tables.specs.Makes.{MachineMakes, answer_of, many-values, many-states, makes-rows}
 
 module _ {actions : ℕ} {step : Step ℕ} {start : ℕ} {limits : Limits} {slot rows : ℕ} {before behind : List ℕ} (w : SlotWritten actions step start limits slot rows before behind) where
   rows_are : RowsFor actions step start limits.rows rows (take (rows * actions) (slot_at behind slot))
@@ -24,12 +26,10 @@ module _ {actions : ℕ} {step : Step ℕ} {start : ℕ} {limits : Limits} {slot
   few-rows limit = le_trans rows_are.few limit
 
 module _ {type actions : ℕ} {step : Step ℕ} {start : ℕ} {limits : Limits} where
-  pub values-over : (out : List ℕ) → OverReached actions step start limits.values → WritesTo (MachineMakes type actions step start limits) (refused 8 0) out out
-  values-over out o = record { written = []; gives = many-values o; front = refl }
-
-  pub rows-over : (out : List ℕ) → (OverReached actions step start limits.values → ⊥) → OverStates actions step start limits.rows
-      → WritesTo (MachineMakes type actions step start limits) (refused 9 0) out out
-  rows-over out few o = record { written = []; gives = many-states few o; front = refl }
+  pub nothing-made : (out : List ℕ) (slot : ℕ) (over : OverLimit) (before behind : List ℕ) → BuildsTo actions step start limits slot (Err over) before behind
+      → WritesTo (MachineMakes type actions step start limits) (answer_of (Err over)) out out
+  nothing-made out slot Values before behind d = record { written = []; gives = many-values d.0; front = refl }
+  nothing-made out slot Rows before behind d = record { written = []; gives = many-states d.0 d.1; front = refl }
 
   pub table-made : {slot rows : ℕ} {before behind : List ℕ} → SlotWritten actions step start limits slot rows before behind → (out left : List ℕ)
       → left ≡ slot_table type actions rows slot behind ++ drop (length (slot_table type actions rows slot behind)) out

@@ -1,10 +1,11 @@
 -- The table of a machine on numbers: of any type, from any start, inside any limits.
 -- Assumes nothing.
-use Rattle.std.specs.Prelude.{List, [], ℕ, ◌≤◌, length}
+use Rattle.std.specs.Prelude.{List, [], ℕ, Result, Ok, Err, ◌≤◌, length}
 use Rattle.trace.specs.Trace.{Step}
 use Rattle.trace.specs.declared.Mode.{Mode}
 use Rattle.limits.specs.declared.Limits.{Limits}
 use Rattle.table.specs.Table.{largest_table}
+use Rattle.table.specs.declared.Header.{Header}
 use Rattle.table.specs.Answer.{Answer, accepted, refused, mode_number}
 use Rattle.making.specs.Making.{table_bytes}
 use Rattle.steppers.specs.Steppers.{step_by, start_by}
@@ -12,8 +13,8 @@ use Rattle.explore.specs.Explored.{OverReached}
 use Rattle.machine_rows.specs.Machines.{OverStates, RowsFor}
 use Rattle.machine_rows.specs.Builds.{Buildable}
 use Rattle.machine_rows.specs.declared.Plan.{Plan}
-use Rattle.machine_rows.specs.declared.MachineBuilt.{MachineBuilt}
-use Rattle.machine_rows.specs.declared.MachineBuilt.TheVariants.{Rows, TooManyValues, TooManyRows}
+use Rattle.machine_rows.specs.declared.OverLimit.{OverLimit}
+use Rattle.machine_rows.specs.declared.OverLimit.TheVariants.{Values, Rows}
 
 -- What a machine gives: 8, 9, or the table of its rows.
 pub data MachineMakes (type actions : ℕ) (step : Step ℕ) (start : ℕ) (limits : Limits) : Answer → List ℕ → Type 0 where
@@ -29,10 +30,10 @@ PlanMakes mode plan work =
     MachineMakes (mode_number mode) plan.actions (step_by plan.actions work plan.stepper) (start_by plan.actions work plan.stepper) plan.limits
 
 -- The answer with its numbers.
-abbrev pub answer_of : Mode → (actions : ℕ) → MachineBuilt → Answer
-answer_of mode actions (Rows rows) = accepted (mode_number mode) actions rows
-answer_of mode actions TooManyValues = refused 8 0
-answer_of mode actions TooManyRows = refused 9 0
+abbrev pub answer_of : Result Header OverLimit → Answer
+answer_of (Ok header) = accepted (mode_number header.mode) header.actions header.rows
+answer_of (Err Values) = refused 8 0
+answer_of (Err Rows) = refused 9 0
 
 -- What making a table is lent: what building is, and room for any table.
 pub record Makable (plan : Plan) (out work values : List ℕ) : Type 0 where

@@ -8,18 +8,25 @@ ghost use Rattle.machine_tables.specs.Slots.{slot_table, RowsWritable};
 ghost use Rattle.machine_tables.specs.Makes.{answer_of, PlanMakes, Makable};
 
 use limits::SLOT_LENGTH;
-use machine_rows::{MachineBuilt, Plan};
+use machine_rows::{OverLimit, Plan, build_large};
 use making::write_table;
+use table::Header;
 use trace::Mode;
 
 // Writes the rows at the front of a slot as a table to the front of `out`.
-pub fn write_rows(mode: Mode, actions: usize, rows: usize, slot: usize, work: &[u8], out: &mut [u8])
-    requires { RowsWritable actions rows slot work.now out.old }
-    ensures { out.new ≡ slot_table (mode_number mode) actions rows slot work.now ++ drop (length (slot_table (mode_number mode) actions rows slot work.now)) out.old }
+pub fn write_rows(header: Header, slot: usize, work: &[u8], out: &mut [u8])
+    requires { RowsWritable header.actions header.rows slot work.now out.old }
+    ensures { let table = slot_table (mode_number header.mode) header.actions header.rows slot work.now in out.new ≡ table ++ drop (length table) out.old }
 {
     let from = slot * SLOT_LENGTH;
-    let to = from + rows * actions;
-    write_table(mode, actions, rows, &work[from..to], out);
+    let to = from + header.rows * header.actions;
+    write_table(
+        header.mode,
+        header.actions,
+        header.rows,
+        &work[from..to],
+        out,
+    );
 }
 
 // Builds the rows of a machine, in the large scratch lists, and writes its table to the front of `out`. A refusal writes nothing.
@@ -29,16 +36,16 @@ pub fn make_table(
     out: &mut [u8],
     work: &mut [u8],
     values: &mut [u64],
-) -> MachineBuilt
+) -> Result<Header, OverLimit>
     requires { Makable plan out.old work.old values.old }
-    ensures { WritesTo (PlanMakes mode plan work.old) (answer_of mode plan.actions result) out.old out.new }
+    ensures { WritesTo (PlanMakes mode plan work.old) (answer_of result) out.old out.new }
 {
-    match machine_rows::build_large(plan, work, values) {
-        MachineBuilt::TooManyValues => MachineBuilt::TooManyValues,
-        MachineBuilt::TooManyRows => MachineBuilt::TooManyRows,
-        MachineBuilt::Rows(rows) => {
-            write_rows(mode, plan.actions, rows, plan.slot, work, out);
-            MachineBuilt::Rows(rows)
-        }
-    }
+    let rows = build_large(plan, work, values)?;
+    let header = Header {
+        mode,
+        actions: plan.actions,
+        rows,
+    };
+    write_rows(header, plan.slot, work, out);
+    Ok(header)
 }
