@@ -7,10 +7,9 @@ use native.Mathlib.Omega.{arith}
 use Rattle.std.specs.Prelude.{Option, Some}
 use Rattle.trace.specs.declared.Mode.{Mode}
 use Rattle.policy.specs.declared.Bound.{Bound}
-use Rattle.policy.specs.declared.Typing.TheVariants.{Typed}
 use Rattle.policy.specs.Parts.{AllParts}
 use Rattle.policy.specs.Rule.{Rule, on_parts, rule_of}
-use Rattle.policy.specs.Typing.{policy_type}
+use Rattle.policy.specs.Typing.{typed as Typed, policy_type}
 use Rattle.syntax.specs.Nodes.{propositions_of}
 use Rattle.syntax.specs.Types.{type_at}
 use Rattle.syntax.specs.Meaning.{node_policy}
@@ -18,7 +17,6 @@ use Rattle.typing.specs.Typed.{SoundSheet}
 use Rattle.syntax.specs.declared.NodeType.{NodeType}
 use Rattle.syntax.specs.declared.NodeType.TheVariants.{Unused, Formula, Policy}
 use Rattle.syntax.specs.declared.Sheet.{Sheet}
-use Rattle.syntax.specs.declared.TypedNode.{TypedNode}
 use Rattle.typing.proofs.Meanings.{policy-of}
 use Rattle.syntax.proofs.NodeTypes.{PolicyBefore}
 use Rattle.rules.specs.Codes.{CountInRange}
@@ -30,14 +28,14 @@ use Rattle.node_rules.specs.SheetRules.{sheet_rules}
 use Rattle.node_rules.proofs.NodeRules.{rule-typed, policy-right}
 
 -- A policy node has its type, is the policy of its rule over earlier policy nodes, and a count from 1 to 60.
-pub record NodeFacts (sheet : Sheet) (types : List TypedNode) (n : ℕ) (mode : Mode) (bound : Bound) : Type 0 where
+pub record NodeFacts (sheet : Sheet) (types : List NodeType) (n : ℕ) (mode : Mode) (bound : Bound) : Type 0 where
   pub type : policy_type (node_policy sheet n) ≡ Typed mode bound
   pub rule : on_parts (node_policy sheet) (node_rule sheet n) ≡ rule_of (propositions_of sheet) (node_policy sheet n)
   pub parts : AllParts (PolicyBefore (type_at types) n) (node_rule sheet n)
   pub count : CountInRange (node_rule sheet n)
 
 -- A node that is a rule is a policy, and used, and the rule says the same as the node's own, over earlier rules.
-pub record RuleFacts (sheet : Sheet) (types : List TypedNode) (n : ℕ) (code : NodeRule) : Type 0 where
+pub record RuleFacts (sheet : Sheet) (types : List NodeType) (n : ℕ) (code : NodeRule) : Type 0 where
   pub mode : Mode
   pub bound : Bound
   pub is : type_at types n ≡ Policy mode bound
@@ -56,7 +54,7 @@ same_count (opens h g e) c = tt
 same_count (filters h g e p) c = tt
 same_count (equal r) c = c
 
-module _ {mode : Mode} (sheet : Sheet) (types : List TypedNode) (sound : SoundSheet mode sheet types) where
+module _ {mode : Mode} (sheet : Sheet) (types : List NodeType) (sound : SoundSheet mode sheet types) where
   abbrev rules : List (Option NodeRule)
   rules = sheet_rules sheet types
 

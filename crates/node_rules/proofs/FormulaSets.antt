@@ -20,7 +20,6 @@ use Rattle.syntax.specs.declared.Node.TheVariants.{True, False, Proposition, Neg
 use Rattle.syntax.specs.declared.NodeType.{NodeType}
 use Rattle.syntax.specs.declared.NodeType.TheVariants.{Formula}
 use Rattle.syntax.specs.declared.Sheet.{Sheet}
-use Rattle.syntax.specs.declared.TypedNode.{TypedNode}
 use Rattle.typing.proofs.Meanings.{node_meaning, meaning-of, meaning-stays, node-parts, agrees}
 use Rattle.typing.proofs.Sound.{typed-formula}
 use Rattle.syntax.proofs.NodeTypes.{EachPart, FormulaBefore, PolicyBefore}
@@ -82,7 +81,7 @@ module _ (sheet : Sheet) (few : sheet.actions ≤ 16) where
     from_parts (Fulfilling k a b c) h = tt
     from_parts (Ignoring a b) h = tt
 
-module _ (sheet : Sheet) (types : List TypedNode) where
+module _ (sheet : Sheet) (types : List NodeType) where
   -- a used formula node has its set
   pub set-listed : (j n : ℕ) → n < j → j ≤ 64 → type_at types n ≡ Formula → set_at (first_sets sheet types j) n ≡ satisfying sheet n
   set-listed j n h g e =

@@ -6,20 +6,19 @@ use mathlib.Core.List.{List}
 use Prim.Native.Nat.{ℕ, ◌≤◌, ◌<◌}
 use native.Mathlib.Omega.{arith}
 use lib.ListN.{get_or}
-use Rattle.std.specs.Prelude.{Option, Some, None}
+use Rattle.std.specs.Prelude.{Option, Some, None, Err, Ok}
 use Rattle.base.specs.Sets.{bit, others_below}
 use Rattle.base.proofs.Filled.{filled_at}
 use Rattle.base.proofs.Sets.{in-set, set-others}
 use Rattle.trace.specs.declared.Mode.{Mode}
 use Rattle.trace.specs.declared.Mode.TheVariants.{Watched, Enforced}
 use Rattle.policy.specs.declared.Bound.{Bound}
-use Rattle.policy.specs.declared.Typing.{Typing}
-use Rattle.policy.specs.declared.Typing.TheVariants.{Typed, Untyped}
 use Rattle.policy.specs.Formula.{always-false}
 use Rattle.policy.specs.Parts.{AllParts}
 use Rattle.policy.specs.Policy.{Policy as APolicy}
 use Rattle.policy.specs.Rule.{Rule, opening-r, on_parts, on_watched, rule_of}
-use Rattle.policy.specs.Typing.{policy_type, alike_typed}
+use Rattle.policy.specs.Typing.{typed as Typed, Typing, policy_type, alike_typed}
+use Rattle.policy.proofs.Typings.{same-type}
 use Rattle.syntax.specs.Nodes.{node_of, propositions_of}
 use Rattle.syntax.specs.Formed.{ArgumentFits}
 use Rattle.syntax.specs.Types.{type_at, typing_of, bound_fits, found, type_node}
@@ -30,8 +29,7 @@ use Rattle.syntax.specs.declared.Node.TheVariants.{True, False, Proposition, Neg
 use Rattle.syntax.specs.declared.NodeType.{NodeType}
 use Rattle.syntax.specs.declared.NodeType.TheVariants.{Policy}
 use Rattle.syntax.specs.declared.Sheet.{Sheet}
-use Rattle.syntax.specs.declared.TypeFound.TheVariants.{Fits, TooLong}
-use Rattle.syntax.specs.declared.TypedNode.{TypedNode}
+use Rattle.syntax.specs.declared.TypeError.TheVariants.{TooLong}
 use Rattle.typing.proofs.Meanings.{node_meaning, meaning-of, meaning-stays, node-parts, agrees, policy-of}
 use Rattle.typing.proofs.Sound.{typed-policy, typed-fits}
 use Rattle.syntax.proofs.NodeTypes.{EachPart, FormulaBefore, PolicyBefore, unfit}
@@ -46,7 +44,7 @@ use Rattle.node_rules.specs.SheetRules.{sheet_rules}
 use Rattle.node_rules.proofs.FormulaSets.{satisfying-bit, set-listed}
 
 -- what node n is lowered to goes by its type
-module _ (sheet : Sheet) (types : List TypedNode) (few : sheet.count ≤ 64) (n : ℕ) (below : n < sheet.count) where
+module _ (sheet : Sheet) (types : List NodeType) (few : sheet.count ≤ 64) (n : ℕ) (below : n < sheet.count) where
   pub rule-typed : {t : NodeType} → type_at types n ≡ t
       → rule_at (sheet_rules sheet types) n ≡ of_policy t (λ m. lowered m sheet.actions (set_at (sets_of sheet types)) (node_of sheet n))
   rule-typed e =
@@ -55,19 +53,19 @@ module _ (sheet : Sheet) (types : List TypedNode) (few : sheet.count ≤ 64) (n 
       ∙ ap (λ (t : NodeType). of_policy t (λ m. lowered m sheet.actions (set_at (sets_of sheet types)) (node_of sheet n))) e
 
 -- And and Or have the mode of their parts
-found-mode : (t : Typing) {m : Mode} {k : Bound} → found t ≡ Fits (Policy m k) → (j : Bound) × (t ≡ Typed m j)
+found-mode : (t : Typing) {m : Mode} {k : Bound} → found t ≡ Ok (Policy m k) → (j : Bound) × (t ≡ Typed m j)
 found-mode (Typed l j) {m} {k} e = by (bound_fits j) refl
   where
     by : (b : Bool) → bound_fits j ≡ b → (i : Bound) × (Typed l j ≡ Typed m i)
-    by true p = let d : Fits (Policy l j) ≡ Fits (Policy m k) = rw p at e in (k, cc)
-    by false p = absurd (let d : TooLong ≡ Fits (Policy m k) = rw p at e in let z : ◌≡◌ {A = ℕ} 0 1 = cc in omega arith)
-found-mode Untyped e = unfit e
+    by true p = let d : Ok (Policy l j) ≡ Ok (Policy m k) = rw p at e in (k, cc)
+    by false p = absurd (let d : Err TooLong ≡ Ok (Policy m k) = rw p at e in let z : ◌≡◌ {A = ℕ} 0 1 = cc in omega arith)
+found-mode None e = unfit e
 
 alike-mode : (l r m : Mode) (i j k : Bound) → alike_typed (Typed l i) (Typed r j) ≡ Typed m k → l ≡ m
-alike-mode Watched Watched m i j k e = cc
+alike-mode Watched Watched m i j k e = (same-type e).0
 alike-mode Watched Enforced m i j k e = absurd (let z : ◌≡◌ {A = ℕ} 0 1 = cc in omega arith)
 alike-mode Enforced Watched m i j k e = absurd (let z : ◌≡◌ {A = ℕ} 0 1 = cc in omega arith)
-alike-mode Enforced Enforced m i j k e = cc
+alike-mode Enforced Enforced m i j k e = (same-type e).0
 
 module _ (sheet : Sheet) (Q : ℕ → Type 0) where
   -- A rule over node numbers is that of a policy over its parts, and the code has one that says the same. Q holds of its parts, and its count
@@ -107,7 +105,7 @@ module _ (sheet : Sheet) (Q : ℕ → Type 0) where
   opened : (hit : ℕ → Bool) (s : ℕ) → ((x : ℕ) → x < sheet.actions → bit s x ≡ hit x) → RightRule (opening-r hit) (opening-r hit) (Some (coded.Opening s))
   opened hit s r = record { code = coded.Opening s; is = refl; over = refl; same = opens _ _ (λ x h. sym (r x h)); parts = tt; count = tt }
 
-  module _ {mode : Mode} (types : List TypedNode) (sound : SoundSheet mode sheet types) (n : ℕ) (below : n < sheet.count)
+  module _ {mode : Mode} (types : List NodeType) (sound : SoundSheet mode sheet types) (n : ℕ) (below : n < sheet.count)
       (part : (i : ℕ) → PolicyBefore (type_at types) n i → Q i) where
     abbrev before : List Meaning
     before = meanings sheet.nodes n
@@ -135,13 +133,13 @@ module _ (sheet : Sheet) (Q : ℕ → Type 0) where
 
     -- And and Or of mode m: so is their first part
     part-mode : (m : Mode) (k : Bound) (a b : ℕ) (p : PolicyBefore (type_at types) n a) (q : PolicyBefore (type_at types) n b)
-        → found (alike_typed (typing_of (type_at types a)) (typing_of (type_at types b))) ≡ Fits (Policy m k) → p.mode ≡ m
+        → found (alike_typed (typing_of (type_at types a)) (typing_of (type_at types b))) ≡ Ok (Policy m k) → p.mode ≡ m
     part-mode m k a b p q e =
         let t = found-mode (alike_typed (Typed p.mode p.bound) (Typed q.mode q.bound)) (rw (p.is, q.is) at e) in
         alike-mode p.mode q.mode m p.bound q.bound t.0 t.1
 
     lowered-right : (m : Mode) (k : Bound) (node : Node) → EachPart (FormulaBefore (type_at types) n) (PolicyBefore (type_at types) n) node → ArgumentFits node
-        → type_node node (type_at types) ≡ Fits (Policy m k) → LoweredFor (meaning_of before node) (rule_by sheet node) (lowered m sheet.actions set node)
+        → type_node node (type_at types) ≡ Ok (Policy m k) → LoweredFor (meaning_of before node) (rule_by sheet node) (lowered m sheet.actions set node)
     lowered-right m k True h g e = refl
     lowered-right m k False h g e = refl
     lowered-right m k (Proposition p) h g e = refl
@@ -177,7 +175,7 @@ module _ (sheet : Sheet) (Q : ℕ → Type 0) where
     node-right e =
         rw (meaning-of sheet n, rule-typed sheet types sound.formed.few-nodes n below e)
         (lowered-right _ _ (node_of sheet n) (node-parts sheet types sound n below (typed-policy e)) (sound.formed.arguments n below)
-        (typed-fits sound n below (typed-policy e) ∙ ap Fits e))
+        (typed-fits sound n below (typed-policy e) ∙ ap Ok e))
 
     pub policy-right : {m : Mode} {k : Bound} → type_at types n ≡ Policy m k
         → RightRule (node_rule sheet n) (rule_of (propositions_of sheet) (node_policy sheet n)) (rule_at (sheet_rules sheet types) n)

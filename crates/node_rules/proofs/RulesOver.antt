@@ -2,9 +2,9 @@
 -- Assumes nothing.
 use mathlib.Core.Path.{◌≡◌, refl, ap, ◌∙◌}
 use Prim.Native.Nat.{ℕ}
+use Rattle.std.specs.Prelude.{None}
+use Rattle.policy.specs.Typing.{typed as Typed, Typing}
 use Rattle.trace.specs.declared.Mode.TheVariants.{Watched, Enforced}
-use Rattle.policy.specs.declared.Typing.{Typing}
-use Rattle.policy.specs.declared.Typing.TheVariants.{Typed, Untyped}
 use Rattle.policy.specs.Rule.{Rule, on_parts, on_watched}
 use Rattle.syntax.specs.Shape.{True, False, Proposition, Count, Negation, Now, Holds, Not, Eventually, Always, Conjunction, Disjunction, And, Or, BeforeMinus, BeforePlus, AfterMinus, AfterPlus, Ignoring, Fulfilling, Shape, leaf, unary, binary, ternary, shape_of, with_parts}
 use Rattle.syntax.specs.declared.Node.{Node}
@@ -16,7 +16,7 @@ module _ {P Q : Type 0} (f : P → Q) where
   on-watched : (r s : Rule P) (t : Typing) → on_parts f (on_watched t r s) ≡ on_watched t (on_parts f r) (on_parts f s)
   on-watched r s (Typed Watched k) = refl
   on-watched r s (Typed Enforced k) = refl
-  on-watched r s Untyped = refl
+  on-watched r s None = refl
 
   abbrev other : RulePart P → RulePart Q
   other a = record { part = f a.part; type = a.type; hit = a.hit }

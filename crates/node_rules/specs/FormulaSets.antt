@@ -12,7 +12,6 @@ use Rattle.syntax.specs.declared.Node.TheVariants.{True, False, Proposition, Neg
 use Rattle.syntax.specs.declared.NodeType.{NodeType}
 use Rattle.syntax.specs.declared.NodeType.TheVariants.{Unused, Formula, Policy}
 use Rattle.syntax.specs.declared.Sheet.{Sheet}
-use Rattle.syntax.specs.declared.TypedNode.{TypedNode}
 use Rattle.node_rules.specs.Nodes.{node_formula, satisfied_by}
 
 -- The set of formula node n: the actions of the sheet that satisfy the formula.
@@ -33,10 +32,10 @@ of_formula Formula set = set
 of_formula (Policy m k) set = 0
 
 -- The sets of the first n nodes, and of all; behind them, empty ones.
-abbrev pub first_sets : Sheet → List TypedNode → ℕ → List ℕ
+abbrev pub first_sets : Sheet → List NodeType → ℕ → List ℕ
 first_sets sheet types n = filled 64 0 (λ i sets. of_formula (type_at types i) (satisfying sheet i)) n
 
-abbrev pub sets_of : Sheet → List TypedNode → List ℕ
+abbrev pub sets_of : Sheet → List NodeType → List ℕ
 sets_of sheet types = first_sets sheet types sheet.count
 
 -- The actions that satisfy proposition p.

@@ -9,12 +9,10 @@ use Rattle.trace.specs.declared.Mode.TheVariants.{Enforced, Watched}
 use Rattle.policy.specs.Rule.{Rule, opening-r, ignoring-r}
 use Rattle.syntax.specs.Nodes.{node_at}
 use Rattle.syntax.specs.Types.{type_at}
-use Rattle.syntax.specs.declared.ListedNode.{ListedNode}
 use Rattle.syntax.specs.declared.Node.{Node}
 use Rattle.syntax.specs.declared.Node.TheVariants.{True, False, Proposition, Negation, Conjunction, Disjunction, Now, Holds, Count, Not, And, Or, Eventually, Always, BeforeMinus, BeforePlus, AfterMinus, AfterPlus, Fulfilling, Ignoring}
 use Rattle.syntax.specs.declared.NodeType.{NodeType}
 use Rattle.syntax.specs.declared.NodeType.TheVariants.{Unused, Formula, Policy}
-use Rattle.syntax.specs.declared.TypedNode.{TypedNode}
 use Rattle.rules.specs.declared.NodeRule.{NodeRule}
 use Rattle.rules.specs.declared.NodeRule.TheVariants as coded
 
@@ -57,7 +55,7 @@ abbrev pub set_at : List ℕ → ℕ → ℕ
 set_at sets i = get_or sets i 0
 
 -- The rules of the first n nodes; after them none.
-abbrev pub rules_of : List ListedNode → List TypedNode → (sets : List ℕ) → (actions n : ℕ) → List (Option NodeRule)
+abbrev pub rules_of : List Node → List NodeType → (sets : List ℕ) → (actions n : ℕ) → List (Option NodeRule)
 rules_of nodes types sets actions n =
     filled 64 None (λ i rules. of_policy (type_at types i) (λ m. lowered m actions (set_at sets) (node_at nodes i))) n
 

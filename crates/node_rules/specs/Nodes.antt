@@ -3,12 +3,11 @@
 use Rattle.std.specs.Prelude.{Bool, not, List, ℕ, suc}
 use Rattle.automaton.specs.Machine.{transition}
 use Rattle.policy.specs.Formula.{Formula, holds}
-use Rattle.policy.specs.Typing.{policy_type}
+use Rattle.policy.specs.Typing.{Typing, policy_type}
 use Rattle.policy.specs.Operators.{Property}
 use Rattle.policy.specs.Rule.{Rule, opening-r, count-r, same-r, both_r, either_r, copied-r, before-r, after-r, fulfilling-r, ignoring-r, on_parts, on_watched}
 use Rattle.policy.specs.Trips.{trips_policy}
 use Rattle.policy.specs.Value.{Part, Value, remembered}
-use Rattle.policy.specs.declared.Typing.{Typing}
 use Rattle.syntax.specs.Nodes.{node_of, propositions_of}
 use Rattle.syntax.specs.Shape.{True, False, Proposition, Count, Negation, Now, Holds, Not, Eventually, Always, Conjunction, Disjunction, And, Or, BeforeMinus, BeforePlus, AfterMinus, AfterPlus, Ignoring, Fulfilling, Shape, leaf, unary, binary, ternary, shape_of, with_parts}
 use Rattle.syntax.specs.Meaning.{meanings, formula_at, node_policy}

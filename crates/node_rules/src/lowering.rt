@@ -4,7 +4,7 @@ ghost use Rattle.node_rules.specs.Lowering.{by_mode, lowered, rules_of, set_at};
 
 use crate::sets::{others, set_at};
 use rules::NodeRule;
-use syntax::{Node, NodeType, Sheet, TypedNode};
+use syntax::{Node, NodeType, Sheet};
 use trace::Mode;
 
 // The rule of an And or an Or, by its mode.
@@ -39,14 +39,14 @@ fn lower(node: Node, mode: Mode, actions: usize, sets: &[u16; 64]) -> Option<Nod
 }
 
 // The rule of each used policy node; no other has one.
-pub fn rules_of(sheet: &Sheet, types: &[TypedNode; 64], sets: &[u16; 64]) -> [Option<NodeRule>; 64]
+pub fn rules_of(sheet: &Sheet, types: &[NodeType; 64], sets: &[u16; 64]) -> [Option<NodeRule>; 64]
     requires { (sheet.now.actions ≤ 16) × (sheet.now.count ≤ 64) × (length sets.now ≡ 64) }
     ensures { result ≡ rules_of sheet.now.nodes types.now sets.now sheet.now.actions sheet.now.count }
 {
     let mut rules = [None; 64];
     for n in 0..sheet.count {
-        if let NodeType::Policy(mode, _) = types[n].of {
-            rules[n] = lower(sheet.nodes[n].node, mode, sheet.actions, sets);
+        if let NodeType::Policy(mode, _) = types[n] {
+            rules[n] = lower(sheet.nodes[n], mode, sheet.actions, sets);
         }
     }
     rules

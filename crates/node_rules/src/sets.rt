@@ -7,7 +7,7 @@ ghost use Rattle.typing.specs.Typed.{SoundSheet};
 ghost use Rattle.node_rules.specs.FormulaSets.{proposition_set, set_from, sets_of};
 ghost use Rattle.node_rules.specs.Lowering.{set_at};
 
-use syntax::{Node, NodeType, Sheet, TypedNode};
+use syntax::{Node, NodeType, Sheet};
 
 // The set of one action.
 fn only(action: usize) -> u16
@@ -72,19 +72,14 @@ fn formula_set(node: Node, propositions: &[u16; 16], actions: usize, sets: &[u16
 }
 
 // The set of each used formula node of a sound sheet: bit a for action a.
-pub fn formula_sets(sheet: &Sheet, types: &[TypedNode; 64]) -> [u16; 64]
+pub fn formula_sets(sheet: &Sheet, types: &[NodeType; 64]) -> [u16; 64]
     requires { (mode : Mode) × SoundSheet mode sheet.now types.now }
     ensures { result ≡ sets_of sheet.now types.now }
 {
     let mut sets = [0; 64];
     for n in 0..sheet.count {
-        if let NodeType::Formula = types[n].of {
-            sets[n] = formula_set(
-                sheet.nodes[n].node,
-                &sheet.propositions,
-                sheet.actions,
-                &sets,
-            );
+        if let NodeType::Formula = types[n] {
+            sets[n] = formula_set(sheet.nodes[n], &sheet.propositions, sheet.actions, &sets);
         }
     }
     sets

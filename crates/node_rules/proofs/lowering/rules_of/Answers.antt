@@ -10,16 +10,15 @@ use Rattle.trace.specs.declared.Mode.{Mode}
 use Rattle.policy.specs.declared.Bound.{Bound}
 use Rattle.syntax.specs.Nodes.{node_at}
 use Rattle.syntax.specs.Types.{type_at}
-use Rattle.syntax.specs.declared.ListedNode.{ListedNode}
+use Rattle.syntax.specs.declared.Node.{Node}
 use Rattle.syntax.specs.declared.NodeType.{NodeType}
 use Rattle.syntax.specs.declared.NodeType.TheVariants.{Unused, Formula, Policy}
-use Rattle.syntax.specs.declared.TypedNode.{TypedNode}
 use Rattle.rules.specs.declared.NodeRule.{NodeRule}
 use Rattle.node_rules.specs.Lowering.{lowered, of_policy, rules_of, set_at}
 use Rattle.node_rules.proofs.lowering.rules_of.Goals as goal
 use Rattle.node_rules.proofs.lowering.rules_of.Goals.{in-Policy, in_default}
 
-module _ (nodes : List ListedNode) (types : List TypedNode) (sets : List ℕ) (actions n : ℕ) {rules : List (Option NodeRule)}
+module _ (nodes : List Node) (types : List NodeType) (sets : List ℕ) (actions n : ℕ) {rules : List (Option NodeRule)}
     (so-far : rules ≡ rules_of nodes types sets actions n) where
   -- the node's own rule, by its type
   abbrev own : NodeType → Option NodeRule

@@ -11,7 +11,6 @@ use Rattle.syntax.specs.Types.{type_at}
 use Rattle.syntax.specs.declared.NodeType.{NodeType}
 use Rattle.syntax.specs.declared.NodeType.TheVariants.{Unused, Formula, Policy}
 use Rattle.syntax.specs.declared.Sheet.{Sheet}
-use Rattle.syntax.specs.declared.TypedNode.{TypedNode}
 use Rattle.typing.specs.Typed.{SoundSheet}
 use Rattle.node_rules.specs.FormulaSets.{satisfying, of_formula, first_sets, set_from}
 use Rattle.node_rules.specs.Lowering.{set_at}
@@ -19,7 +18,7 @@ use Rattle.node_rules.proofs.FormulaSets.{set-right}
 use Rattle.node_rules.proofs.sets.formula_sets.Goals as goal
 use Rattle.node_rules.proofs.sets.formula_sets.Goals.{in-Formula, in_default}
 
-module _ (sheet : Sheet) (types : List TypedNode) (n : ℕ) {sets : List ℕ} (so-far : sets ≡ first_sets sheet types n) where
+module _ (sheet : Sheet) (types : List NodeType) (n : ℕ) {sets : List ℕ} (so-far : sets ≡ first_sets sheet types n) where
   -- node n is no formula
   skipped : (type_at types n ≡ Formula → ⊥) → sets ≡ first_sets sheet types (suc n)
   skipped none =
@@ -48,10 +47,12 @@ loop-n-preserved c =
     let long = c.loop-n.invariant.1 in
     rw (add-one n)
     (elim c.match-types-n.branch [
-      | in-Formula w ↦
-          (w.sets-is ∙ listed c.args.sheet.now c.args.types.now n so-far c.requires.1 c.loop-n-test.true w.in-Formula.is w.formula_set.ensures,
-          ap (λ (l : List ℕ). length l) w.sets-is ∙ length-set c.loop-n.sets n w.formula_set.result ∙ long)
-      | in_default w ↦
-          (w.sets-is ∙ skipped c.args.sheet.now c.args.types.now n so-far w.in_default.not-Formula,
-          ap (λ (l : List ℕ). length l) w.sets-is ∙ long)
+      | in-Formula w ↦ (
+        w.sets-is ∙ listed c.args.sheet.now c.args.types.now n so-far c.requires.1 c.loop-n-test.true w.in-Formula.is w.formula_set.ensures,
+        ap (λ (l : List ℕ). length l) w.sets-is ∙ length-set c.loop-n.sets n w.formula_set.result ∙ long,
+      )
+      | in_default w ↦ (
+        w.sets-is ∙ skipped c.args.sheet.now c.args.types.now n so-far w.in_default.not-Formula,
+        ap (λ (l : List ℕ). length l) w.sets-is ∙ long,
+      )
     ])
