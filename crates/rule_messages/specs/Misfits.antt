@@ -1,6 +1,6 @@
 -- Why a word does not fit where something of a category is to come: the first reason that holds.
 -- Assumes nothing.
-use Rattle.std.specs.Prelude.{Bool, true, false, ◌&&◌, ◌||◌, List, [], ◌∷◌, ℕ, leb}
+use Rattle.std.specs.Prelude.{Bool, true, false, cond, ◌&&◌, ◌||◌, List, [], ◌∷◌, ℕ, leb}
 use Rattle.grammar.specs.Spelling.{same, token_of}
 use Rattle.grammar.specs.declared.Token.{Token}
 use Rattle.grammar.specs.declared.Token.TheVariants.{Watch, Enforce, Now, Holds, Count, Not, And, Or, Eventually, Always, Before, After, Fulfilling, Ignoring, True, False, Proposition, Number, Other}
@@ -15,11 +15,6 @@ use Rattle.rule_messages.specs.declared.Misfit.TheVariants.{Missing, Separator, 
 unfoldable pub any_between : (low high : ℕ) → List ℕ → Bool
 any_between low high [] = false
 any_between low high (byte ∷ rest) = (leb low byte && leb byte high) || any_between low high rest
-
--- a reason where a test holds, else what the others say
-unfoldable pub pick : Bool → Misfit → Misfit → Misfit
-pick true reason rest = reason
-pick false reason rest = rest
 
 abbrev pub has_bracket : List ℕ → Bool
 has_bracket w = any_between 40 41 w || (any_between 91 91 w || (any_between 93 93 w || (any_between 123 123 w || any_between 125 125 w)))
@@ -80,22 +75,22 @@ is_other (Number n) = false
 -- by the word itself, and what is to come
 unfoldable pub by_word : List ℕ → Category → (named : Bool) → Misfit
 by_word w expected named =
-    pick named Named
-    (pick (is_enforced expected && is_watched_only w) WatchedOnly
-    (pick (is_watched expected && is_enforced_only w) EnforcedOnly
-    (pick (is_other (token_of w)) Unknown Misplaced)))
+    cond named Named
+    (cond (is_enforced expected && is_watched_only w) WatchedOnly
+    (cond (is_watched expected && is_enforced_only w) EnforcedOnly
+    (cond (is_other (token_of w)) Unknown Misplaced)))
 
 -- by its bytes: a carriage return, a tab, a byte order mark, a non-breaking space, a bracket, a capital letter
 unfoldable pub by_bytes : List ℕ → Misfit → Misfit
 by_bytes w rest =
-    pick (any_between 13 13 w) Return
-    (pick (any_between 9 9 w) Tab
-    (pick (any_between 239 239 w) Mark
-    (pick (any_between 160 160 w) WideSpace
-    (pick (has_bracket w) Bracket
-    (pick (any_between 65 90 w) Capital rest)))))
+    cond (any_between 13 13 w) Return
+    (cond (any_between 9 9 w) Tab
+    (cond (any_between 239 239 w) Mark
+    (cond (any_between 160 160 w) WideSpace
+    (cond (has_bracket w) Bracket
+    (cond (any_between 65 90 w) Capital rest)))))
 
 unfoldable pub misfit_of : List ℕ → Category → (named : Bool) → Misfit
 misfit_of [] expected named = Missing
 misfit_of (byte ∷ rest) expected named =
-    pick (same (byte ∷ rest) (bytes "---")) Separator (pick (is_end expected) Whole (by_bytes (byte ∷ rest) (by_word (byte ∷ rest) expected named)))
+    cond (same (byte ∷ rest) (bytes "---")) Separator (cond (is_end expected) Whole (by_bytes (byte ∷ rest) (by_word (byte ∷ rest) expected named)))

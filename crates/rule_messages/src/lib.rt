@@ -7,7 +7,7 @@ mod reasons;
 mod told;
 
 pub use expected::add_expected;
-pub use misfits::{any_between, misfit_of};
+pub use misfits::{any_between, misfit_of, strange};
 pub use reasons::add_misfit;
 pub use told::{add_place, add_refused};
 

@@ -1,156 +1,105 @@
 // Which reason there is that a word does not fit.
-ghost use Rattle.std.specs.Prelude.{◌≡◌, ◌<◌, length};
-ghost use Rattle.rule_messages.specs.Misfits.{any_between, pick as picked, has_bracket, is_watched_only, is_enforced_only, is_end, is_enforced, is_watched, is_other, by_word, by_bytes, misfit_of};
+ghost use Rattle.std.specs.Prelude.{◌≡◌, ◌<◌, length, unwrap_or};
+ghost use Rattle.rule_messages.specs.Misfits.{any_between, has_bracket, is_watched_only, is_enforced_only, by_word, by_bytes, misfit_of};
+ghost use Rattle.rule_messages.specs.declared.Misfit.{Misfit};
 
 use crate::Misfit;
 use grammar::{Category, Token};
-use lexer::{same, token_of};
+use lexer::token_of;
 
 // Whether some byte of a word lies in a range.
 pub fn any_between(word: &[u8], low: u8, high: u8) -> bool
     ensures { result ≡ any_between low high word.now }
 {
-    let mut k = 0;
-    while k < word.len() {
-        if (low <= word[k]) & (word[k] <= high) {
-            return true;
-        }
-        k += 1;
-    }
-    false
-}
-
-fn pick(test: bool, reason: Misfit, others: Misfit) -> Misfit
-    ensures { result ≡ picked test reason others }
-{
-    if test { reason } else { others }
+    word.iter().any(|byte| low <= *byte && *byte <= high)
 }
 
 fn has_bracket(word: &[u8]) -> bool
     ensures { result ≡ has_bracket word.now }
 {
-    any_between(word, 40, 41)
-        | (any_between(word, 91, 91)
-            | (any_between(word, 93, 93)
-                | (any_between(word, 123, 123) | any_between(word, 125, 125))))
+    any_between(word, b'(', b')')
+        || any_between(word, b'[', b'[')
+        || any_between(word, b']', b']')
+        || any_between(word, b'{', b'{')
+        || any_between(word, b'}', b'}')
 }
 
+#[tactic(auto, using(lexer::proofs::Spelled::same_bytes))]
 fn is_watched_only(word: &[u8]) -> bool
     ensures { result ≡ is_watched_only word.now }
 {
-    same(word, b"now") | (same(word, b"count") | same(word, b"eventually"))
+    word == b"now".as_slice() || word == b"count".as_slice() || word == b"eventually".as_slice()
 }
 
+#[tactic(auto, using(lexer::proofs::Spelled::same_bytes))]
 fn is_enforced_only(word: &[u8]) -> bool
     ensures { result ≡ is_enforced_only word.now }
 {
-    same(word, b"holds") | (same(word, b"always") | same(word, b"fulfilling"))
+    word == b"holds".as_slice() || word == b"always".as_slice() || word == b"fulfilling".as_slice()
 }
 
-fn is_end(expected: Category) -> bool
-    ensures { result ≡ is_end expected }
+// What a word has in it that no word has: the reason by its bytes.
+#[tactic(auto, unfolding(crate::specs::Misfits::by_bytes))]
+pub fn strange(word: &[u8]) -> Option<Misfit>
+    ensures { (others : Misfit) → unwrap_or result others ≡ by_bytes word.now others }
 {
-    match expected {
-        Category::End => true,
-        Category::Text => false,
-        Category::Watched => false,
-        Category::Enforced => false,
-        Category::Formula => false,
-        Category::Number => false,
+    if any_between(word, b'\r', b'\r') {
+        return Some(Misfit::Return);
     }
-}
-
-fn is_enforced(expected: Category) -> bool
-    ensures { result ≡ is_enforced expected }
-{
-    match expected {
-        Category::Enforced => true,
-        Category::Text => false,
-        Category::Watched => false,
-        Category::Formula => false,
-        Category::Number => false,
-        Category::End => false,
+    if any_between(word, b'\t', b'\t') {
+        return Some(Misfit::Tab);
     }
-}
-
-fn is_watched(expected: Category) -> bool
-    ensures { result ≡ is_watched expected }
-{
-    match expected {
-        Category::Watched => true,
-        Category::Text => false,
-        Category::Enforced => false,
-        Category::Formula => false,
-        Category::Number => false,
-        Category::End => false,
+    if any_between(word, b'\xef', b'\xef') {
+        return Some(Misfit::Mark);
     }
-}
-
-fn is_other(token: Token) -> bool
-    ensures { result ≡ is_other token }
-{
-    match token {
-        Token::Other => true,
-        Token::Watch => false,
-        Token::Enforce => false,
-        Token::Now => false,
-        Token::Holds => false,
-        Token::Count => false,
-        Token::Not => false,
-        Token::And => false,
-        Token::Or => false,
-        Token::Eventually => false,
-        Token::Always => false,
-        Token::Before => false,
-        Token::After => false,
-        Token::Fulfilling => false,
-        Token::Ignoring => false,
-        Token::True => false,
-        Token::False => false,
-        Token::Proposition(_) => false,
-        Token::Number(_) => false,
+    if any_between(word, b'\xa0', b'\xa0') {
+        return Some(Misfit::WideSpace);
     }
+    if has_bracket(word) {
+        return Some(Misfit::Bracket);
+    }
+    if any_between(word, b'A', b'Z') {
+        return Some(Misfit::Capital);
+    }
+    None
 }
 
 // Why a word does not fit, by the word itself.
+#[tactic(auto, unfolding(crate::specs::Misfits::by_word, crate::specs::Misfits::is_enforced, crate::specs::Misfits::is_watched, crate::specs::Misfits::is_other))]
 fn by_word(word: &[u8], expected: Category, named: bool) -> Misfit
-    requires { 0 < length word.now }
     ensures { result ≡ by_word word.now expected named }
 {
-    let plain = pick(is_other(token_of(word)), Misfit::Unknown, Misfit::Misplaced);
-    let watched = pick(
-        is_watched(expected) & is_enforced_only(word),
-        Misfit::EnforcedOnly,
-        plain,
-    );
-    let enforced = pick(
-        is_enforced(expected) & is_watched_only(word),
-        Misfit::WatchedOnly,
-        watched,
-    );
-    pick(named, Misfit::Named, enforced)
-}
-
-// The same by its bytes, else what the others say.
-fn by_bytes(word: &[u8], others: Misfit) -> Misfit
-    ensures { result ≡ by_bytes word.now others }
-{
-    let capital = pick(any_between(word, 65, 90), Misfit::Capital, others);
-    let bracket = pick(has_bracket(word), Misfit::Bracket, capital);
-    let wide = pick(any_between(word, 160, 160), Misfit::WideSpace, bracket);
-    let mark = pick(any_between(word, 239, 239), Misfit::Mark, wide);
-    let tab = pick(any_between(word, 9, 9), Misfit::Tab, mark);
-    pick(any_between(word, 13, 13), Misfit::Return, tab)
+    if named {
+        return Misfit::Named;
+    }
+    if expected == Category::Enforced && is_watched_only(word) {
+        return Misfit::WatchedOnly;
+    }
+    if expected == Category::Watched && is_enforced_only(word) {
+        return Misfit::EnforcedOnly;
+    }
+    match token_of(word) {
+        Token::Other => Misfit::Unknown,
+        _ => Misfit::Misplaced,
+    }
 }
 
 // Why a word does not fit where something of a category is to come; the empty word where there is none. It may be the name of an action.
+#[tactic(auto, using(lexer::proofs::Spelled::same_bytes), unfolding(crate::specs::Misfits::misfit_of, crate::specs::Misfits::is_end))]
 pub fn misfit_of(word: &[u8], expected: Category, named: bool) -> Misfit
     ensures { result ≡ misfit_of word.now expected named }
 {
-    if word.len() == 0 {
+    if word.is_empty() {
         return Misfit::Missing;
     }
-    let inside = by_bytes(word, by_word(word, expected, named));
-    let whole = pick(is_end(expected), Misfit::Whole, inside);
-    pick(same(word, b"---"), Misfit::Separator, whole)
+    if word == b"---".as_slice() {
+        return Misfit::Separator;
+    }
+    if expected == Category::End {
+        return Misfit::Whole;
+    }
+    match strange(word) {
+        Some(misfit) => misfit,
+        None => by_word(word, expected, named),
+    }
 }

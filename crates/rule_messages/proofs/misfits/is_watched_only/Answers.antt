@@ -1,5 +1,0 @@
--- `rule_messages::misfits::is_watched_only` meets its contract.
-use Rattle.rule_messages.proofs.misfits.is_watched_only.Goals as goal
-
-pub returns : goal.returns
-returns c = cc
