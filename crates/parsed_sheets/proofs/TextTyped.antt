@@ -1,13 +1,14 @@
 -- Checks 6 and 7 of the sheet of a rule text: neither ever comes. It is sound, of the text's mode, and its policy has a low bound.
 -- Assumes nothing.
 use Rattle.syntax.specs.declared.NodeType.{NodeType}
-use mathlib.Core.Path.{◌≡◌, refl, subst}
+use mathlib.Core.Path.{◌≡◌, refl, subst, sym, ◌∙◌}
 use mathlib.Core.List.{List}
 use Prim.Native.Nat.{ℕ, ◌+◌, ◌*◌, ◌-◌}
 use native.Mathlib.Nat.{zero-add}
 use native.Mathlib.Omega.{arith}
 use lib.ListN.{length}
 use Rattle.trace.specs.declared.Mode.{Mode}
+use Rattle.policy.proofs.Typings.{same-type}
 use Rattle.policy.specs.Typing.{typed as Typed, policy_type}
 use Rattle.policy.specs.declared.Bound.{Bound}
 use Rattle.syntax.specs.Types.{type_at}
@@ -57,6 +58,5 @@ module _ (actions : List ℕ) {ws : List Word} {rule : TextRule} (reads : Reads 
   -- Whatever type its policy has, a finite bound is at most 60 a node.
   pub text-bound : {m : Mode} {k : Bound} → policy_type rule.policy ≡ Typed m k → AtMost k (60 * size)
   text-bound {m} {k} e =
-      let d = text-well-typed.type in
-      let same : text-well-typed.bound ≡ k = cc in
+      let same = (same-type (sym text-well-typed.type ∙ e)).1 in
       subst (λ (b : Bound). AtMost b (60 * size)) same text-well-typed.low

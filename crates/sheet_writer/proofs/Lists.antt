@@ -5,7 +5,7 @@ use mathlib.Core.List.{List}
 use Prim.Native.Nat.{ℕ, ◌+◌, ◌-◌, ◌≤◌, ◌<◌}
 use native.Mathlib.Decide.{dec_lt}
 use native.Mathlib.Omega.{arith}
-use lib.ListN.{length, get_or, replicate, length-append, length-replicate, length-map, get_or-append, get_or-map, get_or-eq_default}
+use lib.ListN.{length, get_or, replicate, length-append, length-replicate, get_or-append, get_or-eq_default}
 use lib.Seq.{get_or-append-add}
 use Rattle.base.proofs.Lists.{get_or-blank}
 use Rattle.syntax.specs.Nodes.{node_of, propositions_of}
@@ -13,7 +13,7 @@ use Rattle.syntax.specs.Formed.{Formed}
 use Rattle.syntax.specs.declared.Node.{Node}
 use Rattle.syntax.specs.declared.Node.TheVariants.{True}
 use Rattle.sheet_writer.specs.Bytes.{Writable}
-use Rattle.sheet_writer.specs.Sheets.{Narrow, filled_to, listed_nodes, listed_sheet}
+use Rattle.sheet_writer.specs.Sheets.{Narrow, filled_to, listed_sheet}
 
 module _ {A : Type 0} (size : ℕ) (blank : A) (l : List A) where
   pub length-filled : length l ≤ size → length (filled_to size blank l) ≡ size
@@ -38,8 +38,7 @@ module _ (actions : List ℕ) (nodes : List Node) where
   sheet-propositions = get_or-filled 16 0 actions
 
   pub sheet-nodes : (n : ℕ) → node_of (listed_sheet actions nodes) n ≡ get_or nodes n True
-  sheet-nodes n =
-      (get_or-filled 64 True (listed_nodes nodes) n ∙ get_or-map (λ (n : Node). n) nodes n True)
+  sheet-nodes n = get_or-filled 64 True nodes n
 
   -- A formed sheet of actions of 16 bits is as reading gives it.
   pub writable : Narrow actions → Formed (listed_sheet actions nodes) → Writable (listed_sheet actions nodes)
@@ -51,7 +50,7 @@ module _ (actions : List ℕ) (nodes : List Node) where
             record {
               sixteen = length-filled 16 0 actions formed.few-actions;
               no-action = λ a h. sheet-propositions a ∙ get_or-eq_default actions 0 h;
-              sixty-four = length-filled {A = Node} 64 True (listed_nodes nodes) (rw length-map formed.few-nodes);
+              sixty-four = length-filled {A = Node} 64 True nodes formed.few-nodes;
               no_node = λ n h. sheet-nodes n ∙ get_or-eq_default nodes True h;
             };
       }

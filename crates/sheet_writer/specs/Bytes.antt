@@ -10,6 +10,7 @@ use Rattle.syntax.specs.declared.Node.{Node}
 use Rattle.syntax.specs.declared.Node.TheVariants.{True, False, Proposition, Negation, Conjunction, Disjunction, Now, Holds, Count, Not, And, Or, Eventually, Always, BeforeMinus, BeforePlus, AfterMinus, AfterPlus, Fulfilling, Ignoring}
 use Rattle.syntax.specs.declared.Sheet.{Sheet}
 use Rattle.sheet_reading.specs.ReadFrom.{NothingBehind}
+pub use Rattle.sheet_writer.specs.Kinds.{FiveFields}
 
 -- The bytes of 64 nodes; and of the largest sheet, which has a header, 16 actions and 64 nodes.
 abbrev pub node_room : ℕ
@@ -17,10 +18,6 @@ node_room = 320
 
 abbrev pub largest_sheet : ℕ
 largest_sheet = 362
-
--- Kind, argument, parts a, b and c.
-abbrev pub FiveFields : Type 0
-FiveFields = ℕ × ℕ × ℕ × ℕ × ℕ
 
 -- The fields of a node. Those that its kind does not use are 0.
 abbrev pub fields_of : Node → FiveFields

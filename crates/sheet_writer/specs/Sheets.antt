@@ -1,6 +1,6 @@
 -- The sheet of an action list and a list of nodes.
 -- Assumes nothing.
-use Rattle.std.specs.Prelude.{List, map, ◌++◌, ℕ, ◌-◌, ◌≤◌, ◌<◌, length, get_or, replicate}
+use Rattle.std.specs.Prelude.{List, ◌++◌, ℕ, ◌-◌, ◌≤◌, ◌<◌, length, get_or, replicate}
 use Rattle.syntax.specs.declared.Node.{Node}
 use Rattle.syntax.specs.declared.Node.TheVariants.{True}
 use Rattle.syntax.specs.declared.Sheet.{Sheet}
@@ -18,14 +18,11 @@ Narrow actions = (a : ℕ) → a < length actions → get_or actions a 0 < 65536
 abbrev pub filled_to : {A : Type 0} → ℕ → A → List A → List A
 filled_to size blank l = l ++ replicate (size - length l) blank
 
-abbrev pub listed_nodes : List Node → List Node
-listed_nodes nodes = map (λ (n : Node). n) nodes
-
 abbrev pub listed_sheet : List ℕ → List Node → Sheet
 listed_sheet actions nodes =
     record {
       actions = length actions;
       propositions = filled_to 16 0 actions;
       count = length nodes;
-      nodes = filled_to 64 True (listed_nodes nodes);
+      nodes = filled_to 64 True nodes;
     }

@@ -15,13 +15,6 @@ pub record WroteOne (bytes : List ℕ) (n : ℕ) (before after : List ℕ) : Typ
   pub sized : length after ≡ length before
   pub front : n + 1 ≤ 64 → take (5 * (n + 1)) after ≡ take (5 * n) before ++ bytes
 
--- What writing what stands before the nodes asks.
-pub record FrontRoom (actions count listed bytes : ℕ) : Type 0 where
-  pub few-actions : actions ≤ 16
-  pub few-nodes : count ≤ 64
-  pub all_listed : actions ≤ listed
-  pub room : 10 + 2 * actions ≤ bytes
-
 -- What writing a sheet asks: few actions, and an output that has room for any sheet.
 pub record SheetRoom (actions : List ℕ) (count : ℕ) (nodes out : List ℕ) : Type 0 where
   pub few-actions : length actions ≤ 16

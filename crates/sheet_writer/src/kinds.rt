@@ -1,40 +1,13 @@
 // The numbers of the kinds (docs/FORMATS.md).
-pub const TRUE: u8 = 1;
+ghost use Rattle.std.specs.Prelude.{◌≡◌};
+ghost use Rattle.sheet_writer.specs.Kinds.{kind_number};
 
-pub const FALSE: u8 = 2;
+use crate::Kind;
 
-pub const PROPOSITION: u8 = 3;
+impl From<Kind> for u8 {
+    ghost from_gives = { λ kind number. number ≡ kind_number kind };
 
-pub const NEGATION: u8 = 4;
-
-pub const CONJUNCTION: u8 = 5;
-
-pub const DISJUNCTION: u8 = 6;
-
-pub const NOW: u8 = 10;
-
-pub const HOLDS: u8 = 11;
-
-pub const COUNT: u8 = 12;
-
-pub const NOT: u8 = 13;
-
-pub const AND: u8 = 14;
-
-pub const OR: u8 = 15;
-
-pub const EVENTUALLY: u8 = 16;
-
-pub const ALWAYS: u8 = 17;
-
-pub const BEFORE_MINUS: u8 = 18;
-
-pub const BEFORE_PLUS: u8 = 19;
-
-pub const AFTER_MINUS: u8 = 20;
-
-pub const AFTER_PLUS: u8 = 21;
-
-pub const FULFILLING: u8 = 22;
-
-pub const IGNORING: u8 = 23;
+    fn from(kind: Kind) -> u8 {
+        kind as u8
+    }
+}

@@ -1,10 +1,10 @@
 // A sheet at the front of an output: the action list directly after the header, the nodes directly after that.
 ghost use Rattle.std.specs.Prelude.{◌≡◌, ◌≤◌, ◌<◌, ◌+◌, ◌*◌, length};
 ghost use Rattle.std.proofs.lemmas.List.Edits.{sets};
-ghost use Rattle.sheet_writer.specs.Bytes.{header_bytes, action_bytes, front_bytes};
-ghost use Rattle.sheet_writer.specs.Writing.{FrontRoom, SheetRoom, WritesSheet};
+ghost use Rattle.sheet_writer.specs.Bytes.{header_bytes, action_bytes};
+ghost use Rattle.sheet_writer.specs.Writing.{SheetRoom, WritesSheet};
 
-use base::{put_word, wide};
+use base::put_word;
 
 // Writes the header: the counts, the offsets of the two lists, the total.
 fn write_header(actions: usize, count: usize, out: &mut [u8])
@@ -20,24 +20,13 @@ fn write_header(actions: usize, count: usize, out: &mut [u8])
 }
 
 // Writes the action list from a place on.
-fn write_actions(propositions: &[u16], actions: usize, out: &mut [u8], from: usize)
-    requires { (actions ≤ length propositions.now) × (from + 2 * actions ≤ length out.old) }
-    ensures { out.new ≡ sets out.old from (action_bytes propositions.now actions) }
+fn write_actions(actions: &[u16], out: &mut [u8], from: usize)
+    requires { from + 2 * length actions.now ≤ length out.old }
+    ensures { out.new ≡ sets out.old from (action_bytes actions.now (length actions.now)) }
 {
-    let mut a = 0;
-    while a < actions {
-        put_word(out, from + 2 * a, wide(propositions[a]));
-        a += 1;
+    for (a, propositions) in actions.iter().enumerate() {
+        put_word(out, from + 2 * a, usize::from(*propositions));
     }
-}
-
-// Writes what stands before a sheet's nodes: the header, and the first `actions` entries of an action list.
-fn write_front(propositions: &[u16], actions: usize, count: usize, out: &mut [u8])
-    requires { FrontRoom actions count (length propositions.now) (length out.old) }
-    ensures { out.new ≡ sets out.old 0 (front_bytes actions count propositions.now) }
-{
-    write_header(actions, count, out);
-    write_actions(propositions, actions, out, 10);
 }
 
 // Writes the sheet of an action list and of nodes that are known by their bytes to the front of `out`; gives its length. What stands after it stays.
@@ -45,10 +34,10 @@ pub fn write_sheet(actions: &[u16], count: usize, nodes: &[u8], out: &mut [u8]) 
     requires { SheetRoom actions.now count nodes.now out.old }
     ensures { WritesSheet actions.now count nodes.now out.old result out.new }
 {
-    let listed = actions.len();
-    let nodes_at = 10 + 2 * listed;
+    let nodes_at = 10 + 2 * actions.len();
     let size = nodes_at + 5 * count;
-    write_front(actions, listed, count, out);
-    base::copy(&nodes[..5 * count], &mut out[nodes_at..]);
+    write_header(actions.len(), count, out);
+    write_actions(actions, out, 10);
+    out[nodes_at..size].copy_from_slice(&nodes[..5 * count]);
     size
 }

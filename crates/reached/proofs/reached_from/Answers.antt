@@ -10,8 +10,8 @@ loop-n-preserved c =
     let e : suc (l.n - 1) ≡ l.n = omega arith in
     elim c.if-set-n-eq1.branch [
       | then-set-n-eq1 w ↦ (
-          omega arith,
-          rw (e, w.set-is, w.set_of_parts-set.ensures, w.parts_by.ensures) (rw w.if-set-n-eq1.true at l.invariant.1),
-        )
+        omega arith,
+        rw (e, w.set-is, w.set_of_parts-set.ensures, w.parts_by.ensures) (rw w.if-set-n-eq1.true at l.invariant.1),
+      )
       | else-set-n-eq1 w ↦ (omega arith, rw (e, w.set-is) (rw (ne_eqb _ 1 w.if-set-n-eq1.false) at l.invariant.1))
     ]
