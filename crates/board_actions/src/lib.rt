@@ -12,7 +12,7 @@ use places::{Board, with_places};
 
 // What a call answers where its checks pass: permitted, with the set of the places that the action fulfils, as bits, or denied by a place.
 // specs/Replies.antt gives the number and values of docs/FORMATS.md, "Refusals", for each answer.
-#[derive(Clone, Copy, PartialEq, Eq, Debug)]
+#[derive(Clone, Copy, PartialEq, Eq)]
 pub enum Verdict {
     Permitted(u8),
     Denied(usize),

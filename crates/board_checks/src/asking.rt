@@ -5,7 +5,7 @@ use places::{AREA_LENGTH, Board};
 use scan::{Scanned, scan};
 
 // Why a call with an action is refused, in the order 14, 25, 24, 12.
-#[derive(Clone, Copy, PartialEq, Eq, Debug)]
+#[derive(Clone, Copy, PartialEq, Eq)]
 pub enum AskError {
     ShortArea,
     Impossible,

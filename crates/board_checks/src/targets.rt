@@ -5,7 +5,7 @@ use places::{AREA_LENGTH, Board, PLACES, case_at, taken};
 use scan::scan;
 
 // Why a call that names a place is refused, in the order 14, 13, 25.
-#[derive(Clone, Copy, PartialEq, Eq, Debug)]
+#[derive(Clone, Copy, PartialEq, Eq)]
 pub enum TargetError {
     ShortArea,
     NoPlace,
@@ -13,7 +13,7 @@ pub enum TargetError {
 }
 
 // The place that it names else: taken, or empty on a board whose rules are over so many actions, none where no rule is on.
-#[derive(Clone, Copy, PartialEq, Eq, Debug)]
+#[derive(Clone, Copy)]
 pub enum Target {
     Taken,
     Empty(Option<usize>),

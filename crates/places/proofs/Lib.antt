@@ -1,3 +1,2 @@
 pub mod AreaLaws
 pub mod CaseLaws
-pub mod Written

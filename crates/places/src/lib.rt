@@ -16,7 +16,7 @@ pub const PLACE_LENGTH: usize = LARGEST_TABLE;
 pub const AREA_LENGTH: usize = PLACES * PLACE_LENGTH;
 
 // A place is empty, or holds an enforced rule and its row, or a watched rule and its row, or a watched rule fulfilled.
-#[derive(Clone, Copy, PartialEq, Eq, Debug)]
+#[derive(Clone, Copy)]
 pub enum Case {
     Empty,
     Enforced(u8),
@@ -24,13 +24,13 @@ pub enum Case {
     Fulfilled,
 }
 
-#[derive(Clone, Copy, PartialEq, Eq, Debug)]
+#[derive(Clone, Copy)]
 pub struct Place {
     pub case: Case,
 }
 
 // Only `from_places` and `with_places` build one, so that a field more is added there.
-#[derive(Clone, Copy, PartialEq, Eq, Debug)]
+#[derive(Clone, Copy)]
 pub struct Board {
     pub places: [Place; PLACES],
 }
