@@ -6,6 +6,7 @@ use mathlib.Core.List.{List, []}
 use Prim.Native.Nat.{ℕ, zero, suc, ◌*◌, ◌≤◌, ◌<◌}
 use native.Mathlib.Omega.{arith}
 use lib.ListN.{take}
+use Rattle.std.specs.Prelude.{Some}
 use Rattle.trace.specs.declared.Mode.{Mode}
 use Rattle.trace.specs.Trace.{Sequence, Step, go, run}
 use Rattle.limits.specs.declared.Limits.{Limits}
@@ -20,14 +21,13 @@ use Rattle.syntax.specs.Meaning.{node_policy}
 use Rattle.typing.specs.Typed.{SoundSheet}
 use Rattle.syntax.specs.declared.NodeType.TheVariants.{Policy}
 use Rattle.syntax.specs.declared.Sheet.{Sheet}
-use Rattle.syntax.specs.declared.TypedNode.{TypedNode}
+use Rattle.syntax.specs.declared.NodeType.{NodeType}
 use Rattle.syntax.proofs.NodeTypes.{PolicyBefore}
 use Rattle.typing.proofs.Sound.{typed-used, typed-policy}
 use Rattle.rules.specs.Codes.{encode}
 use Rattle.rules.specs.Rules.{slot_at, part_at, rule_at}
 use Rattle.rules.specs.Steps.{code_step, code_start}
 use Rattle.rules.specs.declared.NodeRule.{NodeRule}
-use Rattle.rules.specs.declared.Lowered.TheVariants.{AsRule}
 use Rattle.explore.specs.Explored.{OverReached}
 use Rattle.machine_rows.specs.Machines.{OverStates, RowsFor}
 use Rattle.machine_rows.proofs.Sequences as machine
@@ -42,11 +42,11 @@ use Rattle.compiler.proofs.NodeRuns.{RowsAt, injective, codes}
 use Rattle.compiler.proofs.SlotTables.{slot_tables, slot-table, slot-part}
 
 -- what is typed as a policy is a used policy node
-pub policy-node : {mode : Mode} {sheet : Sheet} {types : List TypedNode} → SoundSheet mode sheet types → (n : ℕ) → n < sheet.count
+pub policy-node : {mode : Mode} {sheet : Sheet} {types : List NodeType} → SoundSheet mode sheet types → (n : ℕ) → n < sheet.count
     → {m : Mode} {k : Bound} → type_at types n ≡ Policy m k → PolicyNode sheet types n
 policy-node right n h {m} {k} e = record { used = typed-used right n h (typed-policy e); mode = m; bound = k; is = e }
 
-module _ {mode : Mode} {sheet : Sheet} {types : List TypedNode} (right : SoundSheet mode sheet types) (limits : Limits) (small : limits.rows ≤ 64)
+module _ {mode : Mode} {sheet : Sheet} {types : List NodeType} (right : SoundSheet mode sheet types) (limits : Limits) (small : limits.rows ≤ 64)
     (n : ℕ) (within : n ≤ sheet.count) (work : List ℕ) (built : BuiltTo (sheet_rules sheet types) sheet.actions limits n work) where
   abbrev A : ℕ
   A = sheet.actions
@@ -126,7 +126,7 @@ module _ {mode : Mode} {sheet : Sheet} {types : List TypedNode} (right : SoundSh
       from b = record { rows = b.rows; few = let h = b.few-rows in omega arith; fits = b.fits }
 
   -- node n is a rule
-  module _ (inside : n < sheet.count) (rule : NodeRule) (is : rule_at (sheet_rules sheet types) n ≡ AsRule rule) where
+  module _ (inside : n < sheet.count) (rule : NodeRule) (is : rule_at (sheet_rules sheet types) n ≡ Some rule) where
     policy : PolicyNode sheet types n
     policy = policy-node right n inside (rule-facts sheet types right n inside rule is).is
 
@@ -151,7 +151,7 @@ module _ {mode : Mode} {sheet : Sheet} {types : List TypedNode} (right : SoundSh
         (over-rows n (omega arith) inside policy (rows_before n (omega arith)) (subst (λ (r : NodeRule). OverStates A (code_step A work r) (code_start A work r) limits.rows) same o)))
 
   -- the rows that a slot before n was built with are its node's
-  pub last-rows : (i : ℕ) → i < n → (policy : PolicyNode sheet types i) (rule : NodeRule) → rule_at (sheet_rules sheet types) i ≡ AsRule rule
+  pub last-rows : (i : ℕ) → i < n → (policy : PolicyNode sheet types i) (rule : NodeRule) → rule_at (sheet_rules sheet types) i ≡ Some rule
       → (b : RuleBuilt A limits work i rule) → RowsOf A (trips_node sheet i) b.rows (take (b.rows * A) (slot_at work i))
   last-rows i h policy rule is b =
       rows_are i (omega arith) (omega arith) policy (rows_before i (omega arith)) b.rows (take (b.rows * A) (slot_at work i))

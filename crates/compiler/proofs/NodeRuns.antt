@@ -5,6 +5,7 @@ use mathlib.Core.Path.{◌≡◌, sym, ◌∙◌, ap}
 use mathlib.Core.Bool.{Bool, false}
 use mathlib.Core.List.{List}
 use Prim.Native.Nat.{ℕ, ◌≤◌}
+use Rattle.std.specs.Prelude.{Option}
 use Rattle.trace.specs.Trace.{Sequence, go, run}
 use Rattle.automaton.specs.Minimal.{RowsOf}
 use Rattle.trace.specs.declared.Mode.{Mode}
@@ -24,13 +25,12 @@ use Rattle.syntax.specs.Nodes.{propositions_of}
 use Rattle.syntax.specs.Types.{type_at}
 use Rattle.syntax.specs.Meaning.{node_policy}
 use Rattle.syntax.specs.declared.Sheet.{Sheet}
-use Rattle.syntax.specs.declared.TypedNode.{TypedNode}
+use Rattle.syntax.specs.declared.NodeType.{NodeType}
 use Rattle.syntax.proofs.NodeTypes.{PolicyBefore}
 use Rattle.rules.specs.Codes.{encode, CountInRange, FitRule}
 use Rattle.rules.specs.Rules.{part_at, rule_over, machine_rule}
 use Rattle.rules.specs.Steps.{encode_move, code_step_of, code_step, code_start}
 use Rattle.rules.specs.declared.NodeRule.{NodeRule}
-use Rattle.rules.specs.declared.Lowered.{Lowered}
 use Rattle.rules.proofs.Encoding.{encode_injective}
 use Rattle.rules.proofs.Fitting.{fit-sound, encode-answer, code-run, remembered-fits}
 use Rattle.rules.proofs.RuleParts.{all_map, all-onto, on-parts-agree, count-on}
@@ -47,7 +47,7 @@ pub record RowsAt (sheet : Sheet) (tables : Tables) (i : ℕ) : Type 0 where
   pub fits : RowsOf sheet.actions (trips_node sheet i) rows (tables i)
 
 -- A policy node n with the rule that is built for it, over earlier policy nodes.
-module _ (sheet : Sheet) (types : List TypedNode) (n : ℕ) {mode : Mode} {bound : Bound} (facts : NodeFacts sheet types n mode bound) {to : Lowered}
+module _ (sheet : Sheet) (types : List NodeType) (n : ℕ) {mode : Mode} {bound : Bound} (facts : NodeFacts sheet types n mode bound) {to : Option NodeRule}
     (right : RightRule sheet (PolicyBefore (type_at types) n) (node_rule sheet n) (rule_of (propositions_of sheet) (node_policy sheet n)) to) where
   abbrev Q : ℕ → Type 0
   Q = PolicyBefore (type_at types) n

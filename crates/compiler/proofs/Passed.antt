@@ -6,10 +6,10 @@ use Prim.Native.Nat.{ℕ}
 use Rattle.trace.specs.declared.Mode.{Mode}
 use Rattle.typing.specs.Typed.{sound, SoundSheet}
 use Rattle.syntax.specs.declared.Sheet.{Sheet}
-use Rattle.syntax.specs.declared.TypedNode.{TypedNode}
+use Rattle.syntax.specs.declared.NodeType.{NodeType}
 use Rattle.typing.proofs.Sound.{judged-sound}
 use Rattle.sheet_judge.specs.Judge.{judge}
 use Rattle.sheet_judge.proofs.JudgedFrom.{judged-formed}
 
-pub passed : (bytes : List ℕ) {mode : Mode} {sheet : Sheet} {types : List TypedNode} → judge bytes ≡ sound mode sheet types → SoundSheet mode sheet types
+pub passed : (bytes : List ℕ) {mode : Mode} {sheet : Sheet} {types : List NodeType} → judge bytes ≡ sound mode sheet types → SoundSheet mode sheet types
 passed bytes e = let r = judged-formed bytes e in judged-sound _ r.judged r.formed

@@ -15,23 +15,25 @@ use Rattle.table.specs.Answer.{refused}
 use Rattle.making.specs.Making.{Workable}
 use Rattle.typing.specs.Typed.{sound, SoundSheet}
 use Rattle.syntax.specs.declared.Sheet.{Sheet}
-use Rattle.syntax.specs.declared.TypedNode.{TypedNode}
+use Rattle.syntax.specs.declared.NodeType.{NodeType}
 use Rattle.sheet_judge.specs.Judge.{judge}
 use Rattle.rules.specs.Rules.{slot_at}
 use Rattle.machine_rows.proofs.BuiltSlots.{built-readable}
-use Rattle.rule_rows.specs.Lists.{AllBuildable, BuiltTo, LastRows, ValuesOver, RowsOver}
+use Rattle.machine_rows.specs.declared.OverLimit.{OverLimit}
+use Rattle.machine_rows.specs.declared.OverLimit.TheVariants.{Values, Rows}
+use Rattle.rule_rows.specs.Lists.{AllBuildable, BuiltTo, LastRows, ValuesOver, RowsOver, NodeOver}
 use Rattle.node_rules.specs.Nodes.{trips_node, Tables}
 use Rattle.node_rules.specs.SheetRules.{sheet_rules}
 use Rattle.node_rules.proofs.NodeRules.{policy-right}
 use Rattle.node_rules.proofs.Facts.{rule-facts}
 use Rattle.compiler.specs.Limits.{Built}
 use Rattle.compiler.specs.Compiles.{PolicyNode, Builds, passes}
+use Rattle.compiler.specs.Refusals.{refusal_over}
 use Rattle.compiler.specs.Building.{Stands, NodesStand, SheetTo}
-use Rattle.compiler.specs.declared.Refusal.TheVariants.{TooManyValues, TooManyRows}
 use Rattle.compiler.proofs.BuiltNodes as nodes
 use Rattle.compiler.proofs.SlotTables.{slot-part}
 
-module _ {mode : Mode} {sheet : Sheet} {types : List TypedNode} (right : SoundSheet mode sheet types) (limits : Limits) where
+module _ {mode : Mode} {sheet : Sheet} {types : List NodeType} (right : SoundSheet mode sheet types) (limits : Limits) where
   -- the rules of the sheet can be built
   pub buildable : (work numbers : List ℕ) → Workable limits work numbers
       → AllBuildable (sheet_rules sheet types) sheet.count sheet.actions limits work numbers
@@ -109,15 +111,12 @@ module _ {mode : Mode} {sheet : Sheet} {types : List TypedNode} (right : SoundSh
           }
 
 -- what building the rules of a judged sheet gives is what its bytes give
-module _ (bytes : List ℕ) {mode : Mode} {sheet : Sheet} {types : List TypedNode} (limits : Limits) (judged : judge bytes ≡ sound mode sheet types)
+module _ (bytes : List ℕ) {mode : Mode} {sheet : Sheet} {types : List NodeType} (limits : Limits) (judged : judge bytes ≡ sound mode sheet types)
     (right : SoundSheet mode sheet types) (small : limits.rows ≤ 64) (work : List ℕ) where
-  pub sheet-values : (n : ℕ) → ValuesOver (sheet_rules sheet types) sheet.count sheet.actions limits n work
-      → SheetTo bytes limits (Err (TooManyValues n)) work
-  sheet-values n o = passes _ _ _ judged _ _ (values-over right limits small work n o)
-
-  pub sheet-rows : (n : ℕ) → RowsOver (sheet_rules sheet types) sheet.count sheet.actions limits n work
-      → SheetTo bytes limits (Err (TooManyRows n)) work
-  sheet-rows n o = passes _ _ _ judged _ _ (rows-over right limits small work n o)
+  pub sheet-over : (n : ℕ) (over : OverLimit) → NodeOver (sheet_rules sheet types) sheet.count sheet.actions limits n over work
+      → SheetTo bytes limits (Err (refusal_over n over)) work
+  sheet-over n Values o = passes _ _ _ judged _ _ (values-over right limits small work n o)
+  sheet-over n Rows o = passes _ _ _ judged _ _ (rows-over right limits small work n o)
 
   pub sheet-built : (rows : ℕ) → BuiltTo (sheet_rules sheet types) sheet.actions limits sheet.count work
       → LastRows (sheet_rules sheet types) sheet.actions limits sheet.count rows work

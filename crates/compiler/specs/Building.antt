@@ -6,7 +6,7 @@ use Rattle.limits.specs.declared.Limits.{Limits}
 use Rattle.table.specs.Answer.{refused}
 use Rattle.typing.specs.Typed.{sound}
 use Rattle.syntax.specs.declared.Sheet.{Sheet}
-use Rattle.syntax.specs.declared.TypedNode.{TypedNode}
+use Rattle.syntax.specs.declared.NodeType.{NodeType}
 use Rattle.sheet_judge.specs.Judge.{judge}
 use Rattle.rules.specs.Rules.{slot_at, part_at, Readable}
 use Rattle.node_rules.specs.Nodes.{Tables, part_of}
@@ -22,7 +22,7 @@ pub record Stands (sheet : Sheet) (tables : Tables) (work : List ℕ) (i : ℕ) 
   pub machine : part_at sheet.actions work i ≡ part_of sheet tables i
 
 -- Every used policy node is inside both limits, and its rows stand in its slot; the last node has so many.
-pub record NodesStand (sheet : Sheet) (types : List TypedNode) (limits : Limits) (rows : ℕ) (work : List ℕ) : Type 0 where
+pub record NodesStand (sheet : Sheet) (types : List NodeType) (limits : Limits) (rows : ℕ) (work : List ℕ) : Type 0 where
   pub tables : Tables
   pub built : BuiltBefore sheet types tables limits sheet.count
   pub stand : (i : ℕ) → i < sheet.count → PolicyNode sheet types i → Stands sheet tables work i
@@ -32,7 +32,7 @@ pub record NodesStand (sheet : Sheet) (types : List TypedNode) (limits : Limits)
 
 -- The bytes are judged to be this sheet, of this mode, and its nodes stand.
 pub record SheetStands (bytes : List ℕ) (limits : Limits) (mode : Mode) (sheet : Sheet) (rows : ℕ) (work : List ℕ) : Type 0 where
-  pub types : List TypedNode
+  pub types : List NodeType
   pub judged : judge bytes ≡ sound mode sheet types
   pub nodes : NodesStand sheet types limits rows work
 

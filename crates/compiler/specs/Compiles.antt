@@ -11,7 +11,7 @@ use Rattle.syntax.specs.Faults.{number_of, spot_of}
 use Rattle.reached.specs.Parts.{Used}
 use Rattle.typing.specs.Typed.{faulty, sound}
 use Rattle.syntax.specs.declared.Sheet.{Sheet}
-use Rattle.syntax.specs.declared.TypedNode.{TypedNode}
+use Rattle.syntax.specs.declared.NodeType.{NodeType}
 use Rattle.syntax.specs.declared.Fault.{Fault}
 use Rattle.syntax.specs.declared.NodeType.TheVariants.{Policy}
 use Rattle.sheet_judge.specs.Judge.{judge}
@@ -19,14 +19,14 @@ use Rattle.node_rules.specs.Nodes.{Tables}
 use Rattle.compiler.specs.Limits.{OverValues, OverRows, Built}
 
 -- Node n is used, and a policy.
-pub record PolicyNode (sheet : Sheet) (types : List TypedNode) (n : ℕ) : Type 0 where
+pub record PolicyNode (sheet : Sheet) (types : List NodeType) (n : ℕ) : Type 0 where
   pub used : Used sheet n
   pub mode : Mode
   pub bound : Bound
   pub is : type_at types n ≡ Policy mode bound
 
 -- Every used policy node before n is inside both limits, with its rows.
-abbrev pub BuiltBefore : Sheet → List TypedNode → Tables → Limits → ℕ → Type 0
+abbrev pub BuiltBefore : Sheet → List NodeType → Tables → Limits → ℕ → Type 0
 BuiltBefore sheet types tables limits n = (i : ℕ) → i < n → PolicyNode sheet types i → Built sheet tables limits i
 
 -- Node n is the first over a limit, and which.
@@ -38,7 +38,7 @@ pub data StopsAt (sheet : Sheet) (tables : Tables) (limits : Limits) (n : ℕ) :
 
 -- What a sheet that passes checks 1 to 7 gives. The limits on remembered values and rows are parameters. The list is the table's bytes, empty
 -- for a refusal.
-pub data Builds (mode : Mode) (sheet : Sheet) (types : List TypedNode) (limits : Limits) : Answer → List ℕ → Type 0 where
+pub data Builds (mode : Mode) (sheet : Sheet) (types : List NodeType) (limits : Limits) : Answer → List ℕ → Type 0 where
   -- 8 or 9 at node n, a used one: every earlier used policy node is inside both limits, and n is over one
   stops : (tables : Tables) (n number : ℕ) → n < sheet.count → BuiltBefore sheet types tables limits n → PolicyNode sheet types n
       → StopsAt sheet tables limits n number → Builds mode sheet types limits (refused number n) []
@@ -53,5 +53,5 @@ pub data Compiles (bytes : List ℕ) (limits : Limits) : Answer → List ℕ →
   -- 1 to 7: the first fault
   faulted : (f : Fault) → judge bytes ≡ faulty f → Compiles bytes limits (refused (number_of f) (spot_of f)) []
   -- 8, 9 or a table
-  passes : (mode : Mode) (sheet : Sheet) (types : List TypedNode) → judge bytes ≡ sound mode sheet types → (answer : Answer) (written : List ℕ)
+  passes : (mode : Mode) (sheet : Sheet) (types : List NodeType) → judge bytes ≡ sound mode sheet types → (answer : Answer) (written : List ℕ)
       → Builds mode sheet types limits answer written → Compiles bytes limits answer written

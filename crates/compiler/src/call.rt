@@ -30,8 +30,7 @@ fn compile_with(
         actions: built.sheet.actions,
         rows: built.rows,
     };
-    let last = built.sheet.count - 1;
-    write_rows(header.mode, header.actions, header.rows, last, work, out);
+    write_rows(header, built.sheet.count - 1, work, out);
     Ok(header)
 }
 

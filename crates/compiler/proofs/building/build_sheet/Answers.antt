@@ -1,108 +1,54 @@
 -- `compiler::building::build_sheet` meets its contract: the first fault of checks 1 to 7, or what building the rules of the sheet answers.
-use mathlib.Core.Path.{◌≡◌, sym, ap, subst, ◌∙◌}
+use mathlib.Core.Path.{◌≡◌}
 use mathlib.Core.List.{List}
 use Prim.Native.Nat.{ℕ}
-use borrow.Author.Rules.{rules}
+use Rattle.std.specs.Prelude.{Ok}
+use Rattle.std.proofs.lemmas.Result.{err_from_is_err_and}
+use Rattle.trace.specs.declared.Mode.{Mode}
 use Rattle.typing.specs.Typed.{sound, SoundSheet}
-use Rattle.syntax.specs.declared.Sheet.{Sheet}
-use Rattle.syntax.specs.declared.TypedNode.{TypedNode}
-use Rattle.sheet_judge.specs.Judge.{judge}
-use Rattle.rules.specs.declared.RuleAt.{RuleAt}
-use Rattle.node_rules.specs.Lowering.{rules_of}
-use Rattle.node_rules.specs.SheetRules.{sheet_rules}
-use Rattle.rule_rows.specs.Lists.{AllBuildable, FinishesTo}
-use Rattle.rule_rows.specs.declared.AllBuilt.{AllBuilt}
+use Rattle.sheet_judge.specs.Judge.{judge, judged}
+use Rattle.sheet_judge.specs.declared.JudgedSheet.{JudgedSheet}
 use Rattle.compiler.specs.Compiles.{faulted}
 use Rattle.compiler.proofs.Judgements.{judged-faulty, judged-policy}
 use Rattle.compiler.proofs.Passed.{passed}
-use Rattle.compiler.proofs.Standing.{buildable, sheet-values, sheet-rows, sheet-built}
+use Rattle.compiler.proofs.Standing.{buildable, sheet-over, sheet-built}
 use Rattle.compiler.proofs.building.build_sheet.Goals as goal
-use Rattle.compiler.proofs.building.build_sheet.Goals.{After-build_all, After-judge-judged, After-rules_of-rules, In-Policy, Start}
 
-pub returns-in-NotSound : goal.returns-in-NotSound
-returns-in-NotSound c = faulted _ (judged-faulty _ _ _ _ c.judge-judged.ensures c.in-NotSound.is)
+pub returns-in_err-mode : goal.returns-in_err-mode
+returns-in_err-mode c =
+    let p = err_from_is_err_and c.from_residual.result c.from_residual.ensures.1 in
+    rw (p.1, p.2) (faulted _ (judged-faulty _ _ _ _ c.judge-judged.ensures c.in_err-mode.was))
 
 -- the checks pass
-module _ (c : In-Policy) where
-  abbrev at : After-judge-judged
-  at = (goal.at.In-Policy c).After-judge-judged
+module _ (bytes : List ℕ) {read : JudgedSheet} (is : read ≡ judged bytes) {mode : Mode} (found : read.found ≡ Ok mode) where
+  judgement : judge bytes ≡ sound mode read.sheet read.types
+  judgement = judged-policy _ _ _ _ is found
 
-  abbrev start : Start
-  start = (goal.at.After-judge-judged at).Start
-
-  abbrev sheet : Sheet
-  sheet = at.judge-judged.result.sheet
-
-  abbrev types : List TypedNode
-  types = at.judge-judged.result.types
-
-  judged : judge start.args.sheet.now ≡ sound c.in-Policy.mode sheet types
-  judged = judged-policy _ _ _ _ at.judge-judged.ensures c.in-Policy.is
-
-  right : SoundSheet c.in-Policy.mode sheet types
-  right = passed start.args.sheet.now judged
+  right : SoundSheet mode read.sheet read.types
+  right = passed bytes judgement
 
 pub formula_sets-sets-requires : goal.formula_sets-sets-requires
-formula_sets-sets-requires c = let f = (goal.at.formula_sets-sets-requires c).In-Policy in (f.in-Policy.mode, right f)
-
-pub rules_of-rules-requires : goal.rules_of-rules-requires
-rules_of-rules-requires c =
-    let f = (goal.at.rules_of-rules-requires c).In-Policy in
-    ((right f).formed.few-actions, (right f).formed.few-nodes, search rules)
-
--- the rules are those of the sheet
-module _ (c : After-rules_of-rules) where
-  abbrev lowered : In-Policy
-  lowered = (goal.at.After-rules_of-rules c).In-Policy
-
-  rules-are : c.rules_of-rules.result ≡ sheet_rules (sheet lowered) (types lowered)
-  rules-are =
-      c.rules_of-rules.ensures
-      ∙ ap (λ (sets : List ℕ). rules_of (sheet lowered).nodes (types lowered) sets (sheet lowered).actions (sheet lowered).count) c.formula_sets-sets.ensures
+formula_sets-sets-requires c = (c.in_ok-mode.mode, right c.args.sheet.now c.judge-judged.ensures c.in_ok-mode.was)
 
 pub build_all-requires : goal.build_all-requires
 build_all-requires c =
-    let a = (goal.at.build_all-requires c).After-rules_of-rules in
-    let f = lowered a in
-    let z = start f in
-    subst
-    (λ (rules : List RuleAt). AllBuildable rules (sheet f).count (sheet f).actions z.args.limits z.args.work.now z.args.values.now)
-    (sym (rules-are a))
-    (buildable (right f) z.args.limits z.args.work.now z.args.values.now z.requires)
+    let rules = rw c.formula_sets-sets.ensures at c.rules_of-rules.ensures in
+    rw rules (buildable (right c.args.sheet.now c.judge-judged.ensures c.in_ok-mode.was) c.args.limits c.args.work.now c.args.values.now c.requires)
 
--- the rules are built
-module _ (c : After-build_all) where
-  abbrev passes : In-Policy
-  passes = lowered (goal.at.After-build_all c).After-rules_of-rules
+pub returns-in_err-rows : goal.returns-in_err-rows
+returns-in_err-rows c =
+    let bytes = c.args.sheet.now in
+    let rules = rw c.formula_sets-sets.ensures at c.rules_of-rules.ensures in
+    let over = c.in_err-rows.field-0.0 in
+    let p = err_from_is_err_and c.from_residual-in_err-rows.result c.from_residual-in_err-rows.ensures.1 in
+    rw (p.1, p.2)
+    (sheet-over bytes c.args.limits (judgement bytes c.judge-judged.ensures c.in_ok-mode.was) (right bytes c.judge-judged.ensures c.in_ok-mode.was)
+    c.requires.range.row.high c.build_all.new.work over.node over.limit (rw rules at c.in_err-rows.ensures))
 
-  abbrev work : List ℕ
-  work = c.build_all.new.work
-
-  -- what is answered of these rules
-  abbrev Finishes : List RuleAt → AllBuilt → Type 0
-  Finishes rules b =
-      FinishesTo rules (sheet passes).count (sheet passes).actions (start passes).args.limits b work
-
-  known : {b : AllBuilt} → c.build_all.result ≡ b → Finishes (sheet_rules (sheet passes) (types passes)) b
-  known e =
-      subst (Finishes (sheet_rules (sheet passes) (types passes))) e
-      (subst (λ (rules : List RuleAt). Finishes rules c.build_all.result) (rules-are (goal.at.After-build_all c).After-rules_of-rules) c.build_all.ensures)
-
-pub returns-in-ValuesAt : goal.returns-in-ValuesAt
-returns-in-ValuesAt c =
-    let a = (goal.at.returns-in-ValuesAt c).After-build_all in
-    let f = passes a in
-    sheet-values (start f).args.sheet.now _ (judged f) (right f) (start f).requires.range.row.high (work a) _ (known a c.in-ValuesAt.is)
-
-pub returns-in-RowsAt : goal.returns-in-RowsAt
-returns-in-RowsAt c =
-    let a = (goal.at.returns-in-RowsAt c).After-build_all in
-    let f = passes a in
-    sheet-rows (start f).args.sheet.now _ (judged f) (right f) (start f).requires.range.row.high (work a) _ (known a c.in-RowsAt.is)
-
-pub returns-in-Rows : goal.returns-in-Rows
-returns-in-Rows c =
-    let a = (goal.at.returns-in-Rows c).After-build_all in
-    let f = passes a in
-    let k = known a c.in-Rows.is in
-    sheet-built (start f).args.sheet.now _ (judged f) (right f) (start f).requires.range.row.high (work a) _ k.0 k.1
+pub returns : goal.returns
+returns c =
+    let bytes = c.args.sheet.now in
+    let rules = rw c.formula_sets-sets.ensures at c.rules_of-rules.ensures in
+    let built = rw rules at c.in_ok-rows.ensures in
+    sheet-built bytes c.args.limits (judgement bytes c.judge-judged.ensures c.in_ok-mode.was) (right bytes c.judge-judged.ensures c.in_ok-mode.was)
+    c.requires.range.row.high c.build_all.new.work _ built.0 built.1
