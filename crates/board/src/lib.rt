@@ -4,5 +4,7 @@
 mod calls;
 mod errors;
 
+pub use board_checks::TargetError;
 pub use calls::{new_board, put_on, take_off};
 pub use errors::{MakeError, PutError, TakeError};
+pub use table::LoadError;

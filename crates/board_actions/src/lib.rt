@@ -7,7 +7,8 @@ ghost use Rattle.view.specs.Steps.{act};
 ghost use Rattle.view.specs.Calls.{Calls};
 ghost use Rattle.board_actions.specs.Replies.{act_reply};
 
-use board_checks::{AskError, ask};
+pub use board_checks::AskError;
+use board_checks::ask;
 use places::{Board, with_places};
 
 // What a call answers where its checks pass: permitted, with the set of the places that the action fulfils, as bits, or denied by a place.
