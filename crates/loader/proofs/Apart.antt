@@ -2,13 +2,18 @@
 -- Assumes nothing.
 use mathlib.Core.Path.{◌≡◌, sym, ◌∙◌, ap, subst}
 use mathlib.Core.List.{List}
+use Rattle.std.proofs.Common.{Option, Some, None, nat_eq}
+use Rattle.std.specs.Option.{option_eq}
+use borrow.Author.Tests.{eq-eqb, ne_eqb}
+use native.Mathlib.Decide.{ℕ_discrete}
+use Rattle.base.specs.Build.{Decides}
 use Prim.Native.Nat.{ℕ, zero, suc, ◌+◌, ◌-◌, ◌≤◌, ◌<◌}
 use native.Mathlib.Nat.{add-zero}
 use native.Mathlib.Omega.{arith}
 use Rattle.automaton.specs.Machine.{AlikeStates, Distinct}
-use Rattle.automaton.specs.Partition.{class_of, first_of, Partition}
+use Rattle.automaton.specs.Partition.{class_of, first_of, Partition, SplitsTo}
 use Rattle.automaton.proofs.Classes.{Equivalence, alike-equivalence, related-class}
-use Rattle.automaton.proofs.Splits.{over-not-partition}
+use Rattle.automaton.proofs.Splits.{over-not-all, over-not-partition}
 
 -- a strictly increasing function keeps its distance
 steps : (f : ℕ → ℕ) (n : ℕ) → ((c d : ℕ) → c < d → d < n → f c < f d) → (c j : ℕ) → c + j < n → f c + j ≤ f (c + j)
@@ -50,3 +55,13 @@ module _ (rows actions : ℕ) (entries : List ℕ) where
       where
         unrelated : (s t : ℕ) → s < t → t ≤ count → AlikeStates 255 actions entries s t → ⊥
         unrelated s t g h r = let e = d.apart s t (omega arith) (omega arith) r in omega arith
+
+  -- told by the number of classes found
+  pub distinct_exactly : (found : Option ℕ) (classes firsts : List ℕ) → SplitsTo (AlikeStates 255 actions entries) rows rows found classes firsts
+      → Decides (Distinct 255 rows actions entries) (option_eq nat_eq found (Some rows))
+  distinct_exactly None classes firsts o = λ d. over-not-all like o
+  distinct_exactly (Some count) classes firsts s =
+      elim (ℕ_discrete count rows) [
+        | yes e ↦ rw (eq-eqb count rows e) (all_apart count classes firsts s.1 e)
+        | no n ↦ rw (ne_eqb count rows n) (not-all-apart count classes firsts s.1 s.0 n)
+      ]

@@ -6,28 +6,19 @@ mod rows;
 ghost use Rattle.table.specs.Answer.{Loads, answer_of};
 
 pub use rows::canonical;
-use table::{Header, Loaded};
+use table::{Header, LoadError};
 use well_formed::check;
 
-// Loads any bytes: an accepted table with its type, actions and rows, or refusal 10 or 11.
-pub fn load(bytes: &[u8]) -> Loaded
+// Loads any bytes: an accepted table's header, or refusal 10 or 11.
+pub fn load(bytes: &[u8]) -> Result<Header, LoadError>
     ensures { Loads bytes.now (answer_of result) }
 {
-    let Header::Fields {
-        mode,
-        actions,
-        rows,
-    } = check(bytes)
-    else {
-        return Loaded::Malformed;
+    let Some(header) = check(bytes) else {
+        return Err(LoadError::Malformed);
     };
-    if canonical(&bytes[8..], rows, actions) {
-        Loaded::Table {
-            mode,
-            actions,
-            rows,
-        }
+    if canonical(&bytes[8..], header.rows, header.actions) {
+        Ok(header)
     } else {
-        Loaded::NotCanonical
+        Err(LoadError::NotCanonical)
     }
 }

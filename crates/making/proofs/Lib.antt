@@ -1,4 +1,3 @@
-pub mod WrittenTable
 pub mod LentAreas
 pub mod TableBytes
 pub mod Calls

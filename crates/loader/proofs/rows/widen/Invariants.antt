@@ -1,11 +1,6 @@
 -- `loader::rows::widen` meets its contract. The loop's invariant: `next` has the entries below k, and then what was there.
-use Prim.Native.Nat.{◌-◌}
-use lib.ListN.{length, get_or}
-use Rattle.base.proofs.Stored.{Stored}
+use Rattle.std.proofs.Common.{◌≡◌, take, drop, ◌++◌}
 use Rattle.loader.proofs.rows.widen.Given as goal
 
 abbrev pub invariant-loop-k : goal.invariant-loop-k
-invariant-loop-k l = Stored (λ j. get_or l.entries j 0) (length l.entries) l.initial.next l.next l.k
-
-abbrev pub decreases-loop-k : goal.decreases-loop-k
-decreases-loop-k l = length l.entries - l.k
+invariant-loop-k l = l.next ≡ take l.k l.entries ++ drop l.k l.initial.next
