@@ -1,180 +1,100 @@
 // The action list: a word an action, the propositions that hold of it joined by `+`, or `-` where none does. The action's name may stand before them,
 // joined by `=`.
-ghost use Rattle.std.specs.Prelude.{◌≡◌, ◌≤◌, length};
-
-use crate::rooms::front;
-use crate::words::{Span, digit, find, is_plain, pass_blanks, word_behind, word_end};
+use crate::words::{find, is_plain, word_at, words_of};
 use grammar::Token;
-use lexer::{same, token_of};
+use lexer::token_of;
 
-// How far a list was read: so many actions, and behind them a word that is none, or has the name of one of them; or nothing.
+// A word of a list that is refused: it stands after so many, and is none that the list can have, or has the name of one before it.
 #[derive(Clone, Copy)]
-pub struct Listed {
-    pub count: usize,
-    pub from: usize,
-    pub to: usize,
+pub struct WrongWord<'a> {
+    pub word: &'a [u8],
+    pub behind: usize,
     pub doubled: bool,
 }
 
-// What a word is: an action's set of propositions, or no action.
-#[derive(Clone, Copy)]
-enum Action {
-    Set(u16),
-    Wrong,
-}
-
-// The number of a proposition, p0 to p15; 100 where the word is none.
-fn proposition(word: &[u8]) -> u8 {
-    if word.len() == 0 {
-        return 100;
-    }
-    match token_of(word) {
-        Token::Proposition(p) => p,
-        _ => 100,
-    }
-}
-
-// The set of one proposition.
-fn bit(p: u8) -> u16 {
-    if p < 16 {
-        return 1u16 << p;
-    }
-    0
-}
-
 // The set that propositions joined by `+` are.
-fn read_propositions(word: &[u8]) -> Action {
-    let mut set: u16 = 0;
-    let mut from = 0;
-    loop {
-        let to = find(word, from, b'+');
-        let p = proposition(&word[from..to]);
-        if 15 < p {
-            return Action::Wrong;
-        }
-        set = set | bit(p);
-        if to == word.len() {
-            return Action::Set(set);
-        }
-        from = to + 1;
+fn read_propositions(word: &[u8]) -> Option<u16> {
+    let mut set = 0u16;
+    for part in word.split(|byte| *byte == b'+') {
+        let Token::Proposition(p @ 0..=15) = token_of(part) else {
+            return None;
+        };
+        set |= 1u16 << p;
     }
+    Some(set)
 }
 
-fn read_set(word: &[u8]) -> Action {
-    if word.len() == 1 {
-        if word[0] == b'-' {
-            return Action::Set(0);
-        }
+fn read_set(word: &[u8]) -> Option<u16> {
+    if word == b"-".as_slice() {
+        return Some(0);
     }
     read_propositions(word)
 }
 
 // Whether a word is a name: small letters and digits, a letter first, and no `p` with a digit behind it, as propositions begin.
 pub fn is_name(word: &[u8]) -> bool {
-    if word.len() == 0 {
-        return false;
+    match word {
+        [] | [b'0'..=b'9', ..] | [b'p', b'0'..=b'9', ..] => false,
+        _ => is_plain(word),
     }
-    if digit(word[0]) < 10 {
-        return false;
-    }
-    if 1 < word.len() {
-        if (word[0] == b'p') & (digit(word[1]) < 10) {
-            return false;
-        }
-    }
-    is_plain(word)
 }
 
-fn read_action(word: &[u8]) -> Action {
+// The set of an action, if the word is one.
+fn read_action(word: &[u8]) -> Option<u16> {
     let end = find(word, 0, b'=');
     if end == word.len() {
         return read_set(word);
     }
-    if is_name(&word[0..end]) {
-        let from = end + 1;
-        return read_set(&word[from..]);
+    if !is_name(&word[..end]) {
+        return None;
     }
-    Action::Wrong
+    read_set(&word[end + 1..])
 }
 
 // What stands before the `=` of a word, all of it where there is none.
 fn name_of(word: &[u8]) -> &[u8] {
-    front(word, find(word, 0, b'='))
+    &word[..find(word, 0, b'=')]
 }
 
-// The number of the first word of a list that has the name; 255 where none has it.
-pub fn action_named(list: &[u8], name: &[u8]) -> u8 {
-    let mut number = 0u8;
-    let mut from = pass_blanks(list, 0);
-    while from < list.len() {
-        let to = word_end(list, from + 1);
-        if same(name_of(&list[from..to]), name) {
-            return number;
-        }
-        if number == 255 {
-            return number;
-        }
-        number += 1;
-        from = pass_blanks(list, to);
-    }
-    255
+// The number of the first of a list's words that has the name; only the first 255 words are looked at.
+pub fn action_named(list: &[u8], name: &[u8]) -> Option<usize> {
+    words_of(list)
+        .take(255)
+        .position(|word| name_of(word) == name)
 }
 
-// Where the name of an action stands in a list. It is empty where the action has none.
-pub fn name_at(list: &[u8], number: usize) -> Span
-    ensures { (result.from ≤ result.to) × (result.to ≤ length list.now) }
-{
-    let word = word_behind(list, number);
-    let from = word.from;
-    let to = word.to;
-    let end = from + find(&list[from..to], 0, b'=');
-    if is_name(&list[from..end]) {
-        return Span { from, to: end };
-    }
-    Span { from, to: from }
+// The name of an action of a list, if it has one.
+pub fn name_at(list: &[u8], number: usize) -> Option<&[u8]> {
+    let name = name_of(word_at(list, number));
+    if is_name(name) { Some(name) } else { None }
 }
 
-// Whether a word has the name of one of the actions before it.
-pub fn is_doubled(before: &[u8], word: &[u8]) -> bool {
+// Whether a word that stands after so many has the name of one of them.
+pub fn is_doubled(list: &[u8], word: &[u8], behind: usize) -> bool {
     let name = name_of(word);
-    is_name(name) & (action_named(before, name) < 255)
+    is_name(name) && action_named(list, name).is_some_and(|first| first < behind)
 }
 
 // Keeps the set of an action where there is room for it.
 fn keep(sets: &mut [u16], number: usize, set: u16) {
-    if number < sets.len() {
-        sets[number] = set;
+    if let Some(place) = sets.get_mut(number) {
+        *place = set;
     }
 }
 
-fn stopped(count: usize, from: usize, to: usize, doubled: bool) -> Listed
-    ensures { (result.from ≡ from) × (result.to ≡ to) }
-{
-    Listed {
-        count,
-        from,
-        to,
-        doubled,
-    }
-}
-
-// Reads a list, and keeps the sets of the actions that there is room for.
-pub fn read_actions(line: &[u8], sets: &mut [u16]) -> Listed
-    ensures { (result.from ≤ result.to) × (result.to ≤ length line.now) }
-{
-    let mut count = 0;
-    let mut from = pass_blanks(line, 0);
-    while from < line.len() {
-        let to = word_end(line, from + 1);
-        match read_action(&line[from..to]) {
-            Action::Wrong => return stopped(count, from, to, false),
-            Action::Set(set) => keep(sets, count, set),
+// Reads a list, keeps the sets of the actions that there is room for, and answers how many actions there are.
+pub fn read_actions<'a>(list: &'a [u8], sets: &mut [u16]) -> Result<usize, WrongWord<'a>> {
+    for (behind, word) in words_of(list).enumerate() {
+        let set = read_action(word);
+        let doubled = set.is_some() && is_doubled(list, word, behind);
+        match set {
+            Some(set) if !doubled => keep(sets, behind, set),
+            _ => return Err(WrongWord {
+                word,
+                behind,
+                doubled,
+            }),
         }
-        if is_doubled(&line[0..from], &line[from..to]) {
-            return stopped(count, from, to, true);
-        }
-        count += 1;
-        from = pass_blanks(line, to);
     }
-    stopped(count, from, from, false)
+    Ok(words_of(list).count())
 }

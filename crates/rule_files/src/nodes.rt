@@ -14,10 +14,7 @@ const FULFILLING: usize = 22;
 pub fn byte_at(bytes: &[u8], i: usize) -> usize
     ensures { result < 256 }
 {
-    if i < bytes.len() {
-        return base::byte(bytes[i]);
-    }
-    0
+    usize::from(bytes.get(i).copied().unwrap_or(0))
 }
 
 // A field of a node: 0 its kind, 1 its argument, 2 to 4 its parts. The header says where the nodes stand.
@@ -37,7 +34,7 @@ fn field(sheet: &[u8], node: usize, k: usize) -> usize
 // A node's first part; the node itself where it has none.
 fn first_part(sheet: &[u8], node: usize) -> usize {
     let kind = field(sheet, node, 0);
-    if (kind <= 3) | (kind == COUNT) {
+    if kind <= PROPOSITION || kind == COUNT {
         return node;
     }
     field(sheet, node, 2)
@@ -60,7 +57,7 @@ fn stands_before(sheet: &[u8], node: usize, other: usize) -> bool {
     if node < other {
         return node < first_under(sheet, other);
     }
-    (other < node) & (first_under(sheet, node) <= other)
+    other < node && first_under(sheet, node) <= other
 }
 
 // How many words a node itself is.
@@ -68,7 +65,7 @@ fn own_words(sheet: &[u8], node: usize) -> usize
     ensures { result ≤ 2 }
 {
     let kind = field(sheet, node, 0);
-    if (kind == COUNT) | (kind == FULFILLING) {
+    if kind == COUNT || kind == FULFILLING {
         return 2;
     }
     1
@@ -77,12 +74,10 @@ fn own_words(sheet: &[u8], node: usize) -> usize
 // How many words of the text stand before a node's. One is the first, which no node is.
 pub fn words_before(sheet: &[u8], node: usize) -> usize {
     let mut words = 1;
-    let mut k = 0;
-    while k < 64 {
-        if stands_before(sheet, k, node) {
-            words += own_words(sheet, k);
+    for other in 0..64 {
+        if stands_before(sheet, other, node) {
+            words += own_words(sheet, other);
         }
-        k += 1;
     }
     words
 }
@@ -131,10 +126,10 @@ fn parts_of(kind: usize) -> usize
 fn say_node(rt: &impl Print, sheet: &[u8], node: usize) {
     let kind = kind_of(sheet, node);
     say_kind(rt, kind);
-    if (kind == COUNT) | (kind == FULFILLING) {
+    if kind == COUNT || kind == FULFILLING {
         say(rt, b" ");
     }
-    if (kind == PROPOSITION) | (kind == COUNT) | (kind == FULFILLING) {
+    if kind == PROPOSITION || kind == COUNT || kind == FULFILLING {
         say_number(rt, field(sheet, node, 1));
     }
 }
@@ -144,32 +139,21 @@ fn push_parts(sheet: &[u8], node: usize, stack: &mut [usize], count: usize) -> u
     requires { count + 3 ≤ length stack.old }
     ensures { result ≤ count + 3 }
 {
-    let mut end = count;
-    let mut part = parts_of(kind_of(sheet, node));
-    while 0 < part {
-        stack[end] = field(sheet, node, 1 + part);
-        end += 1;
-        part -= 1;
+    let parts = parts_of(kind_of(sheet, node));
+    for part in 0..parts {
+        stack[count + part] = field(sheet, node, 1 + parts - part);
     }
-    end
-}
-
-// Room for the nodes that are still to be said: each that is said takes one off, and puts three on at the most.
-fn room_for_nodes() -> [usize; 132]
-    ensures { 132 ≡ length result }
-{
-    [0usize; 132]
+    count + parts
 }
 
 // The words that a node and its parts are. 64 nodes are the most of a text; a sheet that shares parts can be longer as words, and is cut there.
 pub fn say_part(rt: &impl Print, sheet: &[u8], node: usize) {
-    let mut stack = room_for_nodes();
+    // The nodes that are still to be said: each that is said takes one off, and puts three on at the most.
+    let mut stack: [usize; 132] = base::room(0);
     stack[0] = node;
     let mut count = 1;
-    let mut said = 0usize;
-    while 0 < count {
-        if said == 64 {
-            say(rt, b" ..");
+    for said in 0..64usize {
+        if count == 0 {
             return;
         }
         count -= 1;
@@ -179,6 +163,8 @@ pub fn say_part(rt: &impl Print, sheet: &[u8], node: usize) {
         let next = stack[count];
         say_node(rt, sheet, next);
         count = push_parts(sheet, next, &mut stack, count);
-        said += 1;
+    }
+    if 0 < count {
+        say(rt, b" ..");
     }
 }

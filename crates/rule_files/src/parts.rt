@@ -1,13 +1,12 @@
 // The rules of a file: they are separated by lines that have the one word `---`.
-ghost use Rattle.std.specs.Prelude.{◌≤◌, length};
+ghost use Rattle.std.specs.Prelude.{◌<◌, ◌≤◌, length};
 
-use crate::words::{find, newlines, pass_blanks, word_behind};
-use lexer::same;
+use crate::words::{Span, find, newlines, pass_blanks, word_behind};
 
-// A rule of a file: its number, from 1, or 0 where it is the only one; and a line of it.
+// A rule of a file: its number, from 1, or none where it is the only one; and a line of it.
 #[derive(Clone, Copy)]
 pub struct Place {
-    pub rule: usize,
+    pub rule: Option<usize>,
     pub line: usize,
 }
 
@@ -21,10 +20,8 @@ pub struct Part {
 
 // Whether a line separates two rules.
 fn parts_rules(line: &[u8]) -> bool {
-    let span = word_behind(line, 0);
-    let from = span.from;
-    let to = span.to;
-    same(&line[from..to], b"---") & (pass_blanks(line, to) == line.len())
+    let Span { from, to } = word_behind(line, 0);
+    &line[from..to] == b"---".as_slice() && pass_blanks(line, to) == line.len()
 }
 
 // Where the rule ends that begins here: at a line that separates it from the next one, or with the file.
@@ -32,26 +29,19 @@ fn rule_end(file: &[u8], from: usize) -> usize
     requires { from ≤ length file.now }
     ensures { (from ≤ result) × (result ≤ length file.now) }
 {
-    let mut k = from;
-    while k < file.len() {
-        let end = find(file, k, 10);
-        if parts_rules(&file[k..end]) {
-            return k;
-        }
-        if end == file.len() {
-            return end;
-        }
-        k = end + 1;
+    let mut at = from;
+    while at < file.len() && !parts_rules(&file[at..find(file, at, b'\n')]) {
+        at = line_behind(file, at);
     }
-    k
+    at
 }
 
 // Where the next line begins, or the end.
 pub fn line_behind(file: &[u8], at: usize) -> usize
     requires { at ≤ length file.now }
-    ensures { result ≤ length file.now }
+    ensures { (result ≤ length file.now) × (at < length file.now → at < result) }
 {
-    let end = find(file, at, 10);
+    let end = find(file, at, b'\n');
     if end < file.len() { end + 1 } else { end }
 }
 
@@ -61,11 +51,6 @@ fn line_of(file: &[u8], at: usize) -> usize
     ensures { result ≤ 65537 }
 {
     1 + newlines(file, at)
-}
-
-// The number of a rule, 0 where it is the first and the last.
-fn told_number(rule: usize, last: bool) -> usize {
-    if (rule == 1) & last { 0 } else { rule }
 }
 
 // The rule of this number that begins here.
@@ -79,21 +64,26 @@ pub fn part_from(file: &[u8], from: usize, rule: usize) -> Part
         to,
         last,
         place: Place {
-            rule: told_number(rule, last),
+            rule: if rule == 1 && last { None } else { Some(rule) },
             line: line_of(file, from),
         },
     }
 }
 
-// The first watched rule of a file, and the line of its first word; line 0 where none was found so far. This rule has this text.
-pub fn first_watched(found: Place, watched: bool, place: Place, text: &[u8]) -> Place
+// The first watched rule of a file, and the line of its first word: the one that was found so far, else this rule, which has this text.
+pub fn first_watched(
+    found: Option<Place>,
+    watched: bool,
+    place: Place,
+    text: &[u8],
+) -> Option<Place>
     requires { (length text.now ≤ 65535) × (place.line ≤ 65537) }
 {
-    if (found.line == 0) & watched {
-        return Place {
-            rule: place.rule,
-            line: place.line + newlines(text, pass_blanks(text, 0)),
-        };
+    if found.is_some() || !watched {
+        return found;
     }
-    found
+    Some(Place {
+        rule: place.rule,
+        line: place.line + newlines(text, pass_blanks(text, 0)),
+    })
 }

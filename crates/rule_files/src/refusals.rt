@@ -1,11 +1,11 @@
 // What a refusal of the file or of the text means, and what to do.
 ghost use Rattle.std.specs.Prelude.{◌≤◌, length};
 
-use crate::actions::{action_named, is_name};
+use crate::actions::{WrongWord, action_named, is_name};
 use crate::output::{say, say_number, say_refusal, say_word};
 use crate::parts::Place;
-use crate::rooms::{front, room_for_text};
-use crate::words::{find, newlines, word_behind};
+use crate::rooms::front;
+use crate::words::{newlines, word_at, word_behind};
 use grammar::Category;
 use rule_messages::{Misfit, add_expected, add_misfit, add_place, misfit_of};
 
@@ -13,7 +13,15 @@ use rule_messages::{Misfit, add_expected, add_misfit, add_place, misfit_of};
 pub fn following(count: usize) -> usize
     ensures { result ≤ 1000000 }
 {
-    if count < 1000000 { count + 1 } else { 1000000 }
+    count.min(999999) + 1
+}
+
+// What an action is to be.
+fn say_action(rt: &impl Print) {
+    say(
+        rt,
+        b"an action is the propositions that hold of it, p0 to p15, joined by + (p0+p2), or - where none holds; its name may stand before them (gas=p4)\n",
+    );
 }
 
 // What a name is to be.
@@ -34,7 +42,7 @@ pub fn say_bytes(rt: &impl Print, word: &[u8]) {
         | Misfit::WideSpace
         | Misfit::Bracket
         | Misfit::Capital => {
-            let mut room = room_for_text();
+            let mut room: [u8; 1024] = base::room(0);
             let end = add_misfit(misfit, word, &mut room, 0);
             say(rt, front(&room, end));
         }
@@ -42,14 +50,14 @@ pub fn say_bytes(rt: &impl Print, word: &[u8]) {
     }
 }
 
-// 2: a word of the action list, after so many actions, is none, or has the name of one of them.
-pub fn refuse_action(rt: &impl Print, word: &[u8], behind: usize, doubled: bool) {
+// 2: a word of the action list is none, or has the name of one before it.
+pub fn refuse_action(rt: &impl Print, wrong: WrongWord<'_>) {
     say_refusal(rt, 2, 0);
     say(rt, b"line 1, word ");
-    say_number(rt, following(behind));
+    say_number(rt, following(wrong.behind));
     say(rt, b": ");
-    say_word(rt, word);
-    if doubled {
+    say_word(rt, wrong.word);
+    if wrong.doubled {
         say(
             rt,
             b" has the name of an action before it: each action has its own name\n",
@@ -57,12 +65,9 @@ pub fn refuse_action(rt: &impl Print, word: &[u8], behind: usize, doubled: bool)
         return;
     }
     say(rt, b" is not an action\n");
-    say_bytes(rt, word);
-    say(
-        rt,
-        b"an action is the propositions that hold of it, p0 to p15, joined by + (p0+p2), or - where none holds; its name may stand before them (gas=p4)\n",
-    );
-    if find(word, 0, b'=') < word.len() {
+    say_bytes(rt, wrong.word);
+    say_action(rt);
+    if wrong.word.contains(&b'=') {
         say_naming(rt);
     }
 }
@@ -75,10 +80,7 @@ pub fn refuse_actions(rt: &impl Print, count: usize) {
             rt,
             b"line 1 lists no action: write the actions there, separated by spaces, and the rule from line 2 on\n",
         );
-        say(
-            rt,
-            b"an action is the propositions that hold of it, p0 to p15, joined by + (p0+p2), or - where none holds; its name may stand before them (gas=p4)\n",
-        );
+        say_action(rt);
         return;
     }
     say(rt, b"line 1 lists ");
@@ -87,13 +89,12 @@ pub fn refuse_actions(rt: &impl Print, count: usize) {
 }
 
 // Which rule is told of, where there are several.
-pub fn say_rule(rt: &impl Print, rule: usize, behind: &[u8]) {
-    if rule == 0 {
-        return;
+pub fn say_rule(rt: &impl Print, rule: Option<usize>, behind: &[u8]) {
+    if let Some(rule) = rule {
+        say(rt, b"rule ");
+        say_number(rt, rule);
+        say(rt, behind);
     }
-    say(rt, b"rule ");
-    say_number(rt, rule);
-    say(rt, behind);
 }
 
 // 2: more rules than a file can have.
@@ -146,11 +147,15 @@ pub fn tell_nodes(rt: &impl Print, place: Place) {
 pub fn say_spot(rt: &impl Print, text: &[u8], place: Place, words: usize)
     requires { (length text.now ≤ 65535) × (place.line ≤ 65537) }
 {
-    let span = word_behind(text, words);
-    let from = span.from;
-    let line = place.line + newlines(text, from);
-    let mut room = room_for_text();
-    let end = add_place(place.rule, line, following(words), &mut room, 0);
+    let line = place.line + newlines(text, word_behind(text, words).from);
+    let mut room: [u8; 1024] = base::room(0);
+    let end = add_place(
+        place.rule.unwrap_or(0),
+        line,
+        following(words),
+        &mut room,
+        0,
+    );
     say(rt, front(&room, end));
 }
 
@@ -158,29 +163,16 @@ pub fn say_spot(rt: &impl Print, text: &[u8], place: Place, words: usize)
 pub fn say_place(rt: &impl Print, text: &[u8], place: Place, words: usize)
     requires { (length text.now ≤ 65535) × (place.line ≤ 65537) }
 {
-    let span = word_behind(text, words);
-    let from = span.from;
-    let to = span.to;
     say_spot(rt, text, place, words);
-    say_word(rt, &text[from..to]);
+    say_word(rt, word_at(text, words));
 }
 
-// Whether a word is the name of an action of a list.
-fn is_action(list: &[u8], word: &[u8]) -> bool {
-    is_name(word) & (action_named(list, word) < 255)
-}
-
-// What the name of an action stands for.
-fn say_named(rt: &impl Print, list: &[u8], name: &[u8]) {
-    let span = word_behind(list, base::byte(action_named(list, name)));
-    let from = span.from;
-    let to = span.to;
-    say(rt, b"the action list has ");
-    say(rt, &list[from..to]);
-    say(
-        rt,
-        b": write its proposition in the rule; for two, p0+p2, write: and p0 p2\n",
-    );
+// The word of a list that a name names an action by.
+fn named_word<'a>(list: &'a [u8], name: &[u8]) -> Option<&'a [u8]> {
+    if !is_name(name) {
+        return None;
+    }
+    Some(word_at(list, action_named(list, name)?))
 }
 
 // 32, after so many words. The file's actions are listed.
@@ -194,17 +186,20 @@ pub fn tell_unreadable(
 )
     requires { (length text.now ≤ 65535) × (place.line ≤ 65537) }
 {
-    let span = word_behind(text, words);
-    let from = span.from;
-    let to = span.to;
-    let named = is_action(list, &text[from..to]);
-    let misfit = misfit_of(&text[from..to], expected, named);
-    let mut room = room_for_text();
-    let at = add_misfit(misfit, &text[from..to], &mut room, 0);
+    let word = word_at(text, words);
+    let named = named_word(list, word);
+    let misfit = misfit_of(word, expected, named.is_some());
+    let mut room: [u8; 1024] = base::room(0);
+    let at = add_misfit(misfit, word, &mut room, 0);
     let end = add_expected(expected, &mut room, at);
     say_spot(rt, text, place, words);
     say(rt, front(&room, end));
-    if named {
-        say_named(rt, list, &text[from..to]);
+    if let Some(action) = named {
+        say(rt, b"the action list has ");
+        say(rt, action);
+        say(
+            rt,
+            b": write its proposition in the rule; for two, p0+p2, write: and p0 p2\n",
+        );
     }
 }

@@ -7,7 +7,14 @@ use crate::parts::Place;
 use crate::refusals::say_place;
 
 // 8 and 9: how the node grows too large.
-fn tell_size(rt: &impl Print, text: &[u8], place: Place, sheet: &[u8], node: usize, grown: &[u8])
+pub fn tell_size(
+    rt: &impl Print,
+    text: &[u8],
+    place: Place,
+    sheet: &[u8],
+    node: usize,
+    grown: &[u8],
+)
     requires { (length text.now ≤ 65535) × (place.line ≤ 65537) }
 {
     say_place(rt, text, place, words_before(sheet, node));
@@ -16,25 +23,4 @@ fn tell_size(rt: &impl Print, text: &[u8], place: Place, sheet: &[u8], node: usi
         rt,
         b"simplify what begins there, or split it into rules on several places\n",
     );
-}
-
-// 8.
-pub fn tell_values(rt: &impl Print, text: &[u8], place: Place, sheet: &[u8], node: usize)
-    requires { (length text.now ≤ 65535) × (place.line ≤ 65537) }
-{
-    tell_size(
-        rt,
-        text,
-        place,
-        sheet,
-        node,
-        b" remembers more than 1024 values\n",
-    );
-}
-
-// 9.
-pub fn tell_rows(rt: &impl Print, text: &[u8], place: Place, sheet: &[u8], node: usize)
-    requires { (length text.now ≤ 65535) × (place.line ≤ 65537) }
-{
-    tell_size(rt, text, place, sheet, node, b" needs more than 64 rows\n");
 }

@@ -1,5 +1,6 @@
 // Words: what stands between blanks and newlines.
 ghost use Rattle.std.specs.Prelude.{◌≤◌, length};
+ghost use Rattle.std.specs.Iterator.{at_most};
 
 // Where a word stands in a text. It is empty where there is no such word.
 #[derive(Clone, Copy)]
@@ -9,7 +10,21 @@ pub struct Span {
 }
 
 fn is_blank(byte: u8) -> bool {
-    (byte == 32) | (byte == 10)
+    matches!(byte, b' ' | b'\n')
+}
+
+// The first position from `at` on whose byte passes a test, or the end.
+fn first_from<F: Fn(u8) -> bool>(text: &[u8], at: usize, test: F) -> usize
+    requires within { at ≤ length text.now }
+    requires callable { F.IsAlwaysCallable test }
+    ensures { (at ≤ result) × (result ≤ length text.now) }
+{
+    for k in at..text.len() {
+        if test(text[k]) {
+            return k;
+        }
+    }
+    text.len()
 }
 
 // The first position from `at` on whose byte is no blank, or the end.
@@ -17,15 +32,7 @@ pub fn pass_blanks(text: &[u8], at: usize) -> usize
     requires { at ≤ length text.now }
     ensures { (at ≤ result) × (result ≤ length text.now) }
 {
-    let mut k = at;
-    while k < text.len() {
-        if is_blank(text[k]) {
-            k += 1;
-        } else {
-            return k;
-        }
-    }
-    k
+    first_from(text, at, |byte| !is_blank(byte))
 }
 
 // The first position from `at` on whose byte is a blank, or the end.
@@ -33,31 +40,7 @@ pub fn word_end(text: &[u8], at: usize) -> usize
     requires { at ≤ length text.now }
     ensures { (at ≤ result) × (result ≤ length text.now) }
 {
-    let mut k = at;
-    while k < text.len() {
-        if is_blank(text[k]) {
-            return k;
-        }
-        k += 1;
-    }
-    k
-}
-
-// The word after the first n.
-pub fn word_behind(text: &[u8], n: usize) -> Span
-    ensures { (result.from ≤ result.to) × (result.to ≤ length text.now) }
-{
-    let mut from = pass_blanks(text, 0);
-    let mut left = n;
-    while 0 < left {
-        let end = word_end(text, from);
-        from = pass_blanks(text, end);
-        left -= 1;
-    }
-    Span {
-        from,
-        to: word_end(text, from),
-    }
+    first_from(text, at, is_blank)
 }
 
 // The first position from `from` on that has the byte, or the end.
@@ -65,14 +48,63 @@ pub fn find(bytes: &[u8], from: usize, byte: u8) -> usize
     requires { from ≤ length bytes.now }
     ensures { (from ≤ result) × (result ≤ length bytes.now) }
 {
-    let mut k = from;
-    while k < bytes.len() {
-        if bytes[k] == byte {
-            return k;
-        }
-        k += 1;
+    first_from(bytes, from, |other| other == byte)
+}
+
+// The first line of a text, without its newline.
+pub fn first_line(text: &[u8]) -> &[u8]
+    ensures { length result.now ≤ length text.now }
+{
+    &text[..find(text, 0, b'\n')]
+}
+
+// Where the word after the first n stands.
+pub fn word_behind(text: &[u8], n: usize) -> Span
+    ensures { (result.from ≤ result.to) × (result.to ≤ length text.now) }
+{
+    let mut from = pass_blanks(text, 0);
+    for _ in 0..n {
+        let end = word_end(text, from);
+        from = pass_blanks(text, end);
     }
-    k
+    Span {
+        from,
+        to: word_end(text, from),
+    }
+}
+
+// The word after the first n; empty where there is none.
+pub fn word_at(text: &[u8], n: usize) -> &[u8] {
+    let Span { from, to } = word_behind(text, n);
+    &text[from..to]
+}
+
+// The words of what is left of a text, one after the other.
+#[derive(Drop)]
+pub struct TextWords<'a> {
+    pub rest: &'a [u8],
+}
+
+impl<'a> Iterator for TextWords<'a> {
+    type Item = &'a [u8];
+
+    ghost remaining = { λ s. at_most (length s.rest.now) };
+
+    fn next(&mut self) -> Option<&'a [u8]> {
+        let text = self.rest;
+        let from = pass_blanks(text, 0);
+        if from == text.len() {
+            return None;
+        }
+        let to = word_end(text, from + 1);
+        self.rest = &text[to..];
+        Some(&text[from..to])
+    }
+}
+
+// The words of a text.
+pub fn words_of(text: &[u8]) -> TextWords<'_> {
+    TextWords { rest: text }
 }
 
 // How many newlines stand before a position.
@@ -80,43 +112,11 @@ pub fn newlines(text: &[u8], to: usize) -> usize
     requires { to ≤ length text.now }
     ensures { result ≤ to }
 {
-    let mut found = 0;
-    let mut k = 0;
-    while k < to {
-        if text[k] == 10 {
-            found += 1;
-        }
-        k += 1;
-    }
-    found
-}
-
-// The digit that a byte is; 100 where it is none.
-pub fn digit(byte: u8) -> u8
-    ensures { result ≤ 100 }
-{
-    if byte < 48 {
-        return 100;
-    }
-    if 57 < byte {
-        return 100;
-    }
-    byte - 48
-}
-
-fn is_plain_byte(byte: u8) -> bool {
-    ((97 <= byte) & (byte <= 122)) | ((48 <= byte) & (byte <= 57))
+    text[..to].iter().filter(|byte| **byte == b'\n').count()
 }
 
 // Whether a word is of small letters and digits alone.
 pub fn is_plain(word: &[u8]) -> bool {
-    let mut k = 0;
-    while k < word.len() {
-        if is_plain_byte(word[k]) {
-            k += 1;
-        } else {
-            return false;
-        }
-    }
-    true
+    word.iter()
+        .all(|byte| byte.is_ascii_lowercase() || byte.is_ascii_digit())
 }
