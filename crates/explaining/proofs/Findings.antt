@@ -8,6 +8,7 @@ use Prim.Native.Nat.{ℕ, suc, ◌≤◌, ◌<◌}
 use native.Mathlib.Decide.{dec_lt}
 use native.Mathlib.Omega.{arith}
 use lib.ListN.{length, take}
+use lib.Seq.{take_all}
 use Rattle.base.specs.Sets.{bit}
 use Rattle.trace.specs.Trace.{Sequence, Step, trips}
 use Rattle.trace.specs.declared.Mode.TheVariants.{Enforced}
@@ -26,7 +27,7 @@ use Rattle.reached.proofs.NodeSets.{reached-by-and, all-earlier}
 use Rattle.rules.specs.Rules.{part_at, Readable}
 use Rattle.compiler.specs.Compiles.{PolicyNode}
 use Rattle.explaining.specs.Denials.{policy_node, satisfies_node, NoneDenied, FirstDenied, LowestViolated}
-use Rattle.explaining.specs.Reading.{Walkable, FirstTrip, Namable, LowestTrips, Standing}
+use Rattle.explaining.specs.Reading.{Walkable, TripsAt, Namable, LowestTrips, Standing}
 use Rattle.explaining.proofs.Walks.{front-untripped}
 use Rattle.explaining.proofs.ReachedNodes.{policy-inside, reached-inside, reached-used, reached-mode}
 
@@ -104,17 +105,21 @@ module _ {sheet : Sheet} {work : List ℕ} (s : Standing Enforced sheet work) wh
           sequence = q;
         }
 
-    module _ {place : ℕ} (t : FirstTrip (part_at A work last) list place) where
-      permitted : (k : ℕ) → k ≤ place → satisfies_node sheet last (take k list) ≡ true
-      permitted k h = satisfied last itself (take k list) (front k) (front-untripped _ list k place h t.before)
+    -- before a place up to which nothing trips, all is permitted
+    permitted : (place : ℕ) → trips (part_at A work last) 0 (take place list) ≡ false → (k : ℕ) → k ≤ place
+        → satisfies_node sheet last (take k list) ≡ true
+    permitted place e k h = satisfied last itself (take k list) (front k) (front-untripped _ list k place h e)
 
-      pub none-denied-by : place ≡ length list → NoneDenied sheet list
-      none-denied-by e k h = permitted k (omega arith)
+    pub none-denied-by : trips (part_at A work last) 0 list ≡ false → NoneDenied sheet list
+    none-denied-by e = permitted (length list) (rw (take_all (length list) list (omega arith)) e)
 
-      pub first-denied-by : (place ≡ length list → ⊥) → FirstDenied sheet list place
-      first-denied-by n =
-          let h : place < length list = omega (arith, t.within) in
-          record { inside = h; permitted = permitted; denied = violated last itself (take (suc place) list) (front (suc place)) (t.at h) }
+    pub first-denied-by : {place : ℕ} → TripsAt (part_at A work last) list place → FirstDenied sheet list place
+    first-denied-by {place} t =
+        record {
+          inside = t.inside;
+          permitted = permitted place t.before;
+          denied = violated last itself (take (suc place) list) (front (suc place)) t.at;
+        }
 
     -- the lowest node whose rows the list trips, where it violates the policy
     module _ (denied : satisfies_node sheet last list ≡ false) {node : ℕ} (l : LowestTrips work set last A list node) where

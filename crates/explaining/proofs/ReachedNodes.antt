@@ -1,19 +1,19 @@
 -- The nodes reached through And alone from a node of a formed sheet: they stand at or before it, and are all satisfied where it is. Those reached
 -- from the policy are of its mode.
 -- Assumes nothing.
-use mathlib.Core.Path.{◌≡◌, sym, ◌∙◌, ap, ap₂}
+use mathlib.Core.Path.{◌≡◌, refl, sym, ◌∙◌, ap, ap₂}
 use mathlib.Core.Bool.{Bool, true, false, cond, ◌&&◌}
 use mathlib.Core.List.{List}
 use Prim.Native.Nat.{ℕ, ◌≤◌, ◌<◌}
 use native.Mathlib.Omega.{arith}
+use Rattle.std.specs.Prelude.{Err, None, Ok}
 use Rattle.base.proofs.Truths.{and-true}
 use Rattle.trace.specs.declared.Mode.{Mode}
 use Rattle.trace.specs.declared.Mode.TheVariants.{Watched, Enforced}
 use Rattle.policy.specs.declared.Bound.{Bound}
-use Rattle.policy.specs.declared.Typing.{Typing}
-use Rattle.policy.specs.declared.Typing.TheVariants.{Typed, Untyped}
 use Rattle.policy.specs.Policy.{Policy as APolicy, and-p, satisfies}
-use Rattle.policy.specs.Typing.{alike_typed}
+use Rattle.policy.specs.Typing.{typed as Typed, Typing, alike_typed}
+use Rattle.policy.proofs.Typings.{same-type}
 use Rattle.syntax.specs.Nodes.{node_of, propositions_of}
 use Rattle.syntax.specs.Shape.{And, Shape, binary, shape_of, with_parts}
 use Rattle.syntax.specs.Formed.{Formed}
@@ -25,8 +25,7 @@ use Rattle.typing.specs.Typed.{SoundSheet}
 use Rattle.syntax.specs.declared.NodeType.{NodeType}
 use Rattle.syntax.specs.declared.NodeType.TheVariants.{Unused, Formula, Policy}
 use Rattle.syntax.specs.declared.Sheet.{Sheet}
-use Rattle.syntax.specs.declared.TypeFound.TheVariants.{Fits, TooLong}
-use Rattle.syntax.specs.declared.TypedNode.{TypedNode}
+use Rattle.syntax.specs.declared.TypeError.TheVariants.{TooLong}
 use Rattle.typing.proofs.Meanings.{meaning-of, meaning-stays}
 use Rattle.reached.proofs.ReachedSets.{reached-map, reached-no-later}
 use Rattle.reached.proofs.NodeSets.{and-earlier, and-is-part}
@@ -78,32 +77,32 @@ module _ {sheet : Sheet} (formed : Formed sheet) where
 
 -- two typings that are alike: both have the mode of the whole
 alike-modes : (s t : Typing) {m : Mode} {k : Bound} → alike_typed s t ≡ Typed m k → ((i : Bound) × (s ≡ Typed m i)) × ((j : Bound) × (t ≡ Typed m j))
-alike-modes (Typed Watched i) (Typed Watched j) {m} e = let q : Watched ≡ m = cc in ((i, ap (λ (n : Mode). Typed n i) q), (j, ap (λ (n : Mode). Typed n j) q))
+alike-modes (Typed Watched i) (Typed Watched j) {m} e = let q : Watched ≡ m = (same-type e).0 in ((i, ap (λ (n : Mode). Typed n i) q), (j, ap (λ (n : Mode). Typed n j) q))
 alike-modes (Typed Watched i) (Typed Enforced j) e = absurd (let z : ◌≡◌ {A = ℕ} 0 1 = cc in omega arith)
-alike-modes (Typed Watched i) Untyped e = absurd (let z : ◌≡◌ {A = ℕ} 0 1 = cc in omega arith)
+alike-modes (Typed Watched i) None e = absurd (let z : ◌≡◌ {A = ℕ} 0 1 = cc in omega arith)
 alike-modes (Typed Enforced i) (Typed Watched j) e = absurd (let z : ◌≡◌ {A = ℕ} 0 1 = cc in omega arith)
-alike-modes (Typed Enforced i) (Typed Enforced j) {m} e = let q : Enforced ≡ m = cc in ((i, ap (λ (n : Mode). Typed n i) q), (j, ap (λ (n : Mode). Typed n j) q))
-alike-modes (Typed Enforced i) Untyped e = absurd (let z : ◌≡◌ {A = ℕ} 0 1 = cc in omega arith)
-alike-modes Untyped t e = absurd (let z : ◌≡◌ {A = ℕ} 0 1 = cc in omega arith)
+alike-modes (Typed Enforced i) (Typed Enforced j) {m} e = let q : Enforced ≡ m = (same-type e).0 in ((i, ap (λ (n : Mode). Typed n i) q), (j, ap (λ (n : Mode). Typed n j) q))
+alike-modes (Typed Enforced i) None e = absurd (let z : ◌≡◌ {A = ℕ} 0 1 = cc in omega arith)
+alike-modes None t e = absurd (let z : ◌≡◌ {A = ℕ} 0 1 = cc in omega arith)
 
-found-typed : (t : Typing) {m : Mode} {k : Bound} → found t ≡ Fits (Policy m k) → t ≡ Typed m k
+found-typed : (t : Typing) {m : Mode} {k : Bound} → found t ≡ Ok (Policy m k) → t ≡ Typed m k
 found-typed (Typed n j) {m} {k} e = by (bound_fits j) e
   where
-    by : (b : Bool) → cond b (Fits (Policy n j)) TooLong ≡ Fits (Policy m k) → Typed n j ≡ Typed m k
-    by true q = cc
+    by : (b : Bool) → cond b (Ok (Policy n j)) (Err TooLong) ≡ Ok (Policy m k) → Typed n j ≡ Typed m k
+    by true q = let e : n ≡ m = cc in let d : j ≡ k = cc in rw (e, d) refl
     by false q = absurd (let z : ◌≡◌ {A = ℕ} 0 1 = cc in omega arith)
-found-typed Untyped e = absurd (let z : ◌≡◌ {A = ℕ} 0 1 = cc in omega arith)
+found-typed None e = absurd (let z : ◌≡◌ {A = ℕ} 0 1 = cc in omega arith)
 
 typing-of : (t : NodeType) {m : Mode} {k : Bound} → typing_of t ≡ Typed m k → t ≡ Policy m k
 typing-of Unused e = absurd (let z : ◌≡◌ {A = ℕ} 0 1 = cc in omega arith)
 typing-of Formula e = absurd (let z : ◌≡◌ {A = ℕ} 0 1 = cc in omega arith)
-typing-of (Policy n j) e = cc
+typing-of (Policy n j) e = let q = same-type e in rw (q.0, q.1) refl
 
-module _ {mode : Mode} {sheet : Sheet} {types : List TypedNode} (s : SoundSheet mode sheet types) where
+module _ {mode : Mode} {sheet : Sheet} {types : List NodeType} (s : SoundSheet mode sheet types) where
   part-modes : (n a b : ℕ) → n < sheet.count → shape_of (node_of sheet n) ≡ binary And a b → {k : Bound} → type_at types n ≡ Policy mode k
       → ((i : Bound) × (type_at types a ≡ Policy mode i)) × ((j : Bound) × (type_at types b ≡ Policy mode j))
   part-modes n a b h e {k} t =
-      let q : found (alike_typed (typing_of (type_at types a)) (typing_of (type_at types b))) ≡ Fits (Policy mode k) = rw (e, t) at (typed-fits s n h (typed-policy t)) in
+      let q : found (alike_typed (typing_of (type_at types a)) (typing_of (type_at types b))) ≡ Ok (Policy mode k) = rw (e, t) at (typed-fits s n h (typed-policy t)) in
       let (x, y) = alike-modes (typing_of (type_at types a)) (typing_of (type_at types b)) (found-typed _ q) in
       ((x.0, typing-of (type_at types a) x.1), (y.0, typing-of (type_at types b) y.1))
 

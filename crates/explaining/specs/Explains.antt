@@ -9,7 +9,7 @@ use Rattle.table.specs.Answer.{accepted, mode_number}
 use Rattle.table.specs.Answer.{refused as compiler-refused}
 use Rattle.typing.specs.Typed.{sound}
 use Rattle.syntax.specs.declared.Sheet.{Sheet}
-use Rattle.syntax.specs.declared.TypedNode.{TypedNode}
+use Rattle.syntax.specs.declared.NodeType.{NodeType}
 use Rattle.sheet_judge.specs.Judge.{judge}
 use Rattle.compiler.specs.Compiles.{Builds, Compiles}
 use Rattle.explaining.specs.Denials.{NotAnAction, NoneDenied, FirstDenied, LowestViolated}
@@ -22,7 +22,7 @@ pub data Explanation : Type 0 where
 
 -- The bytes are compiled: they are judged to be this sheet, of this mode, and the sheet gets a table.
 pub record CompiledSheet (bytes : List ℕ) (limits : Limits) (mode : Mode) (sheet : Sheet) : Type 0 where
-  pub types : List TypedNode
+  pub types : List NodeType
   pub judged : judge bytes ≡ sound mode sheet types
   pub rows : ℕ
   pub table : List ℕ

@@ -1,6 +1,6 @@
 -- Reading a list of actions through rows: where it first trips.
 -- Assumes nothing.
-use Rattle.std.specs.Prelude.{◌≡◌, true, false, List, [], ℕ, suc, ◌≤◌, ◌<◌, length, take}
+use Rattle.std.specs.Prelude.{◌≡◌, true, false, List, [], ℕ, Option, Some, None, suc, ◌≤◌, ◌<◌, length, take}
 use Rattle.base.specs.Sets.{bit}
 use Rattle.trace.specs.Trace.{Sequence, Step, trips}
 use Rattle.trace.specs.declared.Mode.{Mode}
@@ -9,7 +9,7 @@ use Rattle.limits.specs.Lengths.{work_length}
 use Rattle.limits.specs.declared.Limits.{Limits}
 use Rattle.typing.specs.Typed.{SoundSheet}
 use Rattle.syntax.specs.declared.Sheet.{Sheet}
-use Rattle.syntax.specs.declared.TypedNode.{TypedNode}
+use Rattle.syntax.specs.declared.NodeType.{NodeType}
 use Rattle.rules.specs.Rules.{part_at, Readable}
 use Rattle.compiler.specs.Building.{NodesStand}
 use Rattle.explaining.specs.Explains.{Explanation, refused, Finds}
@@ -21,11 +21,16 @@ pub record Walkable (work : List ℕ) (node actions : ℕ) (list : List ℕ) : T
   pub few : actions ≤ 16
   pub sequence : Sequence actions list
 
--- The front before place k does not trip, and with the action there it does; where k is the list's length, nothing does.
-pub record FirstTrip (step : Step ℕ) (list : List ℕ) (k : ℕ) : Type 0 where
-  pub within : k ≤ length list
+-- The front before place k does not trip, and with the action there it does.
+pub record TripsAt (step : Step ℕ) (list : List ℕ) (k : ℕ) : Type 0 where
+  pub inside : k < length list
   pub before : trips step 0 (take k list) ≡ false
-  pub at : k < length list → trips step 0 (take (suc k) list) ≡ true
+  pub at : trips step 0 (take (suc k) list) ≡ true
+
+-- Where a list first trips, if it does.
+abbrev pub FirstTrip : Step ℕ → List ℕ → Option ℕ → Type 0
+FirstTrip step list None = trips step 0 list ≡ false
+FirstTrip step list (Some k) = TripsAt step list k
 
 -- What naming is lent: the slots of the set's nodes below the last can be read.
 pub record Namable (work : List ℕ) (set last actions : ℕ) (list : List ℕ) : Type 0 where
@@ -48,7 +53,7 @@ FindsBy Enforced sheet list answer written = Finds sheet list answer written
 
 -- The nodes of a sheet stand in the work area.
 pub record Standing (mode : Mode) (sheet : Sheet) (work : List ℕ) : Type 0 where
-  pub types : List TypedNode
+  pub types : List NodeType
   pub right : SoundSheet mode sheet types
   pub limits : Limits
   pub rows : ℕ

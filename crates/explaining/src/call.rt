@@ -38,10 +38,9 @@ fn find_denial(
     }
     let count = sheet.count;
     let last = (count - 1) as u8;
-    let place = first_trip(work, actions, last, list);
-    if place == list.len() {
+    let Some(place) = first_trip(work, actions, last, list) else {
         return Ok(None);
-    }
+    };
     let nodes = sheet.nodes;
     let set = reached_by_and(nodes, count - 1);
     let end = place + 1;

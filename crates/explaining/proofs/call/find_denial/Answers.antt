@@ -15,15 +15,15 @@ use Rattle.trace.specs.declared.Mode.TheVariants.{Enforced}
 use Rattle.table.specs.Answer.{mode_number}
 use Rattle.policy.proofs.Congruent.{sequence-take}
 use Rattle.syntax.specs.declared.Sheet.{Sheet}
-use Rattle.explaining.specs.Denials.{policy_node, FirstDenied}
+use Rattle.explaining.specs.Denials.{FirstDenied}
 use Rattle.explaining.specs.Explains.{Explanation, no-denial, denied, refused, Finds, no-action, none-denied, first-denied}
-use Rattle.explaining.specs.Reading.{FindsBy, LowestTrips, Standing}
+use Rattle.explaining.specs.Reading.{FindsBy, Standing}
 use Rattle.explaining.proofs.Walks.{not-sequence}
 use Rattle.reached.proofs.NodeSets.{all-earlier}
 use Rattle.explaining.proofs.Findings.{walkable, namable, none-denied-by, first-denied-by, lowest-violated}
 use Rattle.explaining.proofs.Standing.{watched-mode, enforced-mode}
 use Rattle.explaining.proofs.call.find_denial.Goals as goal
-use Rattle.explaining.proofs.call.find_denial.Goals.{After-reached_by_and-set, Else-outside, Else-watched, Start}
+use Rattle.explaining.proofs.call.find_denial.Goals.{Else-outside, Else-watched, In-Some, Start}
 
 pub returns-then-watched : goal.returns-then-watched
 returns-then-watched c =
@@ -68,14 +68,14 @@ module _ (c : Else-outside) where
       subst (Decides (Sequence (start mine).args.sheet.actions (list mine))) c.if-outside.false
       mine.all_actions-outside.ensures
 
-pub first_trip-place-requires : goal.first_trip-place-requires
-first_trip-place-requires c = walkable (stands (mine c)) (list (mine c)) (sequence c)
+pub first_trip-requires : goal.first_trip-requires
+first_trip-requires c = walkable (stands (mine c)) (list (mine c)) (sequence c)
 
-pub returns-then-place-list : goal.returns-then-place-list
-returns-then-place-list c =
-    let q = (goal.at.returns-then-place-list c).Else-outside in
+pub returns-in_default : goal.returns-in_default
+returns-in_default c =
+    let q = (goal.at.returns-in_default c).Else-outside in
     let e = mine q in
-    found e no-denial (none-denied (sequence q) (none-denied-by (stands e) (list e) (sequence q) c.first_trip-place.ensures c.if-place-list.true))
+    found e no-denial (none-denied (sequence q) (none-denied-by (stands e) (list e) (sequence q) c.in_default.ensures))
 
 pub reached_by_and-set-requires : goal.reached_by_and-set-requires
 reached_by_and-set-requires c =
@@ -83,18 +83,18 @@ reached_by_and-set-requires c =
     let f = (stands e).right.formed in record { from_bound = omega (arith, f.few-nodes, f.some-node); parts_earlier = all-earlier _ f }
 
 -- an action is denied
-module _ (c : After-reached_by_and-set) where
+module _ (c : In-Some) where
   abbrev all : Else-outside
-  all = (goal.at.After-reached_by_and-set c).Else-outside
+  all = (goal.at.In-Some c).Else-outside
 
   abbrev own : Else-watched
   own = mine all
 
   abbrev place : ℕ
-  place = c.first_trip-place.result
+  place = c.in-Some.place
 
   first : FirstDenied (start own).args.sheet (list own) place
-  first = first-denied-by (stands own) (list own) (sequence all) c.first_trip-place.ensures c.if-place-list.false
+  first = first-denied-by (stands own) (list own) (sequence all) c.in-Some.ensures
 
   abbrev front : List ℕ
   front = take (suc place) (list own)
@@ -104,20 +104,20 @@ module _ (c : After-reached_by_and-set) where
 
 pub slice_bounds-lowest_tripped-end : goal.slice_bounds-lowest_tripped-end
 slice_bounds-lowest_tripped-end c =
-    sym (length-take-le (place c + 1) (list (own c)) (omega (arith, (first c).inside)))
+    let r = (goal.at.slice_bounds-lowest_tripped-end c).In-Some in
+    sym (length-take-le (place r + 1) (list (own r)) (omega (arith, (first r).inside)))
 
 pub lowest_tripped-node-requires : goal.lowest_tripped-node-requires
 lowest_tripped-node-requires c =
-    rw (c.reached_by_and-set.ensures, add-one (place c)) (namable (stands (own c)) (front c) (fronts c))
+    let r = (goal.at.lowest_tripped-node-requires c).In-Some in
+    rw (c.reached_by_and-set.ensures, add-one (place r)) (namable (stands (own r)) (front r) (fronts r))
 
 pub returns : goal.returns
 returns c =
-    let r = (goal.at.returns c).After-reached_by_and-set in
+    let r = (goal.at.returns c).In-Some in
     let z = start (own r) in
     rw c.from.ensures
     (found (own r) (denied (place r) c.lowest_tripped-node.result)
     (first-denied (sequence (all r)) (place r) _ (first r)
     (lowest-violated (stands (own r)) (front r) (fronts r) (first r).denied
-    (subst (λ (set : ℕ). LowestTrips z.args.work.now set (policy_node z.args.sheet) z.args.sheet.actions (front r) c.lowest_tripped-node.result) r.reached_by_and-set.ensures
-    (subst (λ (k : ℕ). LowestTrips z.args.work.now r.reached_by_and-set.result (policy_node z.args.sheet) z.args.sheet.actions (take k (list (own r))) c.lowest_tripped-node.result)
-    (add-one (place r)) c.lowest_tripped-node.ensures)))))
+    (rw (← c.reached_by_and-set.ensures, ← add-one (place r)) c.lowest_tripped-node.ensures))))

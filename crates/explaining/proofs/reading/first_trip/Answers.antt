@@ -1,73 +1,31 @@
 -- The goals of `explaining::reading::first_trip` that the check leaves.
-use mathlib.Core.Path.{◌≡◌, refl, sym, ◌∙◌, ap}
-use mathlib.Core.List.{List}
-use Prim.Native.Nat.{ℕ, ◌<◌}
+use mathlib.Core.Path.{sym, ◌∙◌, ap}
 use native.Mathlib.Numerals.{add-one}
 use native.Mathlib.Omega.{arith}
-use lib.ListN.{length, take}
-use borrow.Author.Rules.{rules}
-use Rattle.trace.specs.Trace.{go, Step, run}
 use Rattle.rules.specs.Rules.{part_at, move_of}
-use Rattle.rules.specs.declared.ValueMove.{ValueMove}
 use Rattle.rules.proofs.Reading.{goes-below, index-fits}
-use Rattle.explaining.proofs.Walks.{sequence-at, next-move, trips-here, trips-nowhere}
+use Rattle.explaining.proofs.Walks.{sequence-all, next-move, trips-here, trips-nowhere}
 use Rattle.explaining.proofs.reading.first_trip.Goals as goal
-use Rattle.explaining.proofs.reading.first_trip.Goals.{After-part_move, Start}
-
-pub loop-i-init : goal.loop-i-init
-loop-i-init c = (omega arith, omega arith, refl)
 
 pub part_move-requires : goal.part_move-requires
 part_move-requires c =
-    let l = c.loop-i in
     let w = c.requires in
-    let a = sequence-at c.args.actions c.args.list.now w.sequence l.i (search rules) in
-    let e = c.byte.ensures.0 in
-    (w.room, w.readable.node, index-fits (omega (arith, l.invariant.1)) w.few (omega arith))
+    let a = sequence-all c.args.actions c.args.list.now w.sequence c.loop-place.place 0 (omega arith) in
+    (w.room, w.readable.node, index-fits (omega (arith, c.loop-place.invariant.0)) w.few (omega (arith, c.from.ensures)))
 
--- where the action at i leads
-module _ (c : After-part_move) where
-  abbrev start : Start
-  start = (goal.at.After-part_move c).Start
+pub returns-in_default : goal.returns-in_default
+returns-in_default c =
+    let l = c.loop-place in
+    trips-here (part_at c.args.actions c.args.work.now c.args.node) c.args.list.now l.place l.row c.from.result (omega arith) l.invariant.1 c.from.ensures
+    (sym c.part_move.ensures ∙ ap move_of c.in_default.is)
 
-  abbrev list : List ℕ
-  list = start.args.list.now
-
-  abbrev part : Step ℕ
-  part = part_at start.args.actions start.args.work.now start.args.node
-
-  abbrev i : ℕ
-  i = c.loop-i.i
-
-  abbrev row : ℕ
-  row = c.loop-i.row
-
-  inside : i < length list
-  inside = search rules
-
-  here : run part (go 0) (take i list) ≡ go row
-  here = c.loop-i.invariant.2
-
-  moves : {m : ValueMove} → c.part_move.result ≡ m → part row c.byte.result ≡ move_of m
-  moves e = sym c.part_move.ensures ∙ ap move_of e
-
-pub returns-in-Trip : goal.returns-in-Trip
-returns-in-Trip c =
-    let m = (goal.at.returns-in-Trip c).After-part_move in
-    trips-here (part m) (list m) (i m) (row m) m.byte.result (inside m) (here m) m.byte.ensures.0 (moves m c.in-Trip.is)
-
-pub loop-i-preserved : goal.loop-i-preserved
-loop-i-preserved c =
-    let m = (goal.at.loop-i-preserved c).After-part_move in
-    let e = moves m c.in-Go.is in (
-      search rules,
-      goes-below (start m).requires.readable (start m).args.actions (row m) m.byte.result c.in-Go.next e,
-      rw (add-one (i m)) (next-move (part m) (list m) (i m) (row m) m.byte.result (inside m) (here m) m.byte.ensures.0 ∙ e),
+pub loop-place-preserved : goal.loop-place-preserved
+loop-place-preserved c =
+    let l = c.loop-place in
+    let e = sym c.part_move.ensures ∙ ap move_of c.in-Some.is in (
+      goes-below c.requires.readable c.args.actions l.row c.from.result c.in-Some.next e,
+      rw (add-one l.place) (next-move (part_at c.args.actions c.args.work.now c.args.node) c.args.list.now l.place l.row c.from.result (omega arith) l.invariant.1 c.from.ensures ∙ e),
     )
 
 pub returns : goal.returns
-returns c =
-    let l = c.loop-i in
-    let w = c.args.list.now in
-    let n : l.i < length w → ⊥ = λ h. omega arith in
-    trips-nowhere _ w l.i l.invariant.0 n l.invariant.2
+returns c = trips-nowhere _ c.args.list.now c.loop-place.place (omega arith) c.loop-place.invariant.1
