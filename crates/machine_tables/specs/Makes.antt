@@ -8,7 +8,6 @@ use Rattle.table.specs.Table.{largest_table}
 use Rattle.table.specs.declared.Header.{Header}
 use Rattle.table.specs.Answer.{Answer, accepted, refused, mode_number}
 use Rattle.making.specs.Making.{table_bytes}
-use Rattle.steppers.specs.Steppers.{step_by, start_by}
 use Rattle.explore.specs.Explored.{OverReached}
 use Rattle.machine_rows.specs.Machines.{OverStates, RowsFor}
 use Rattle.machine_rows.specs.Builds.{Buildable}
@@ -24,10 +23,9 @@ pub data MachineMakes (type actions : ℕ) (step : Step ℕ) (start : ℕ) (limi
   makes-rows : (OverReached actions step start limits.values → ⊥) → (rows : ℕ) (entries : List ℕ) → RowsFor actions step start limits.rows rows entries
       → MachineMakes type actions step start limits (accepted type actions rows) (table_bytes type actions rows entries)
 
--- The same of a plan, over the work area that its step reads.
-abbrev pub PlanMakes : Mode → Plan → List ℕ → Answer → List ℕ → Type 0
-PlanMakes mode plan work =
-    MachineMakes (mode_number mode) plan.actions (step_by plan.actions work plan.stepper) (start_by plan.actions work plan.stepper) plan.limits
+-- The same of a plan for a machine.
+abbrev pub PlanMakes : Mode → Plan → (step : Step ℕ) (start : ℕ) → Answer → List ℕ → Type 0
+PlanMakes mode plan step start = MachineMakes (mode_number mode) plan.actions step start plan.limits
 
 -- The answer with its numbers.
 abbrev pub answer_of : Result Header OverLimit → Answer

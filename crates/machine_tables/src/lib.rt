@@ -10,6 +10,7 @@ ghost use Rattle.machine_tables.specs.Makes.{answer_of, PlanMakes, Makable};
 use limits::SLOT_LENGTH;
 use machine_rows::{OverLimit, Plan, build_large};
 use making::write_table;
+use steppers::Stepper;
 use table::Header;
 use trace::Mode;
 
@@ -30,17 +31,18 @@ pub fn write_rows(header: Header, slot: usize, work: &[u8], out: &mut [u8])
 }
 
 // Builds the rows of a machine, in the large scratch lists, and writes its table to the front of `out`. A refusal writes nothing.
-pub fn make_table(
+pub fn make_table<S: Stepper>(
     mode: Mode,
+    stepper: S,
     plan: Plan,
     out: &mut [u8],
     work: &mut [u8],
     values: &mut [u64],
 ) -> Result<Header, OverLimit>
-    requires { Makable plan out.old work.old values.old }
-    ensures { WritesTo (PlanMakes mode plan work.old) (answer_of result) out.old out.new }
+    requires { S.can_step stepper work.old × Makable plan out.old work.old values.old }
+    ensures { WritesTo (PlanMakes mode plan (S.moves stepper plan.actions work.old) (S.first stepper plan.actions work.old)) (answer_of result) out.old out.new }
 {
-    let rows = build_large(plan, work, values)?;
+    let rows = build_large(stepper, plan, work, values)?;
     let header = Header {
         mode,
         actions: plan.actions,

@@ -61,19 +61,20 @@ module _ {rules : List (Option NodeRule)} {count actions : ℕ} {limits : Limits
     pub next-buildable : (node : Option NodeRule) → rule_at rules n ≡ node → (values : List ℕ) → work_length ≤ length before → numbers_length ≤ length values
         → NextBuildable node before n actions limits values
     next-buildable None e values room space = tt
-    next-buildable (Some rule) e values room space =
-        record {
-          steps = record {
-            room = room;
-            parts = all_map (EarlierRule rules n) (Readable before) part-readable (rule_over rule) (lent.parts n inside rule e);
-          };
-          bytes = room;
-          slot = omega (arith, lent.few);
-          actions-low = lent.actions-low;
-          actions-high = lent.actions-high;
-          range = lent.range;
-          room = space;
-        }
+    next-buildable (Some rule) e values room space = (
+      record {
+        room = room;
+        parts = all_map (EarlierRule rules n) (Readable before) part-readable (rule_over rule) (lent.parts n inside rule e);
+      },
+      record {
+        bytes = room;
+        slot = omega (arith, lent.few);
+        actions-low = lent.actions-low;
+        actions-high = lent.actions-high;
+        range = lent.range;
+        room = space;
+      },
+    )
 
     -- behind it the other slots are as they were
     module _ (behind : List ℕ) (others : (i : ℕ) → (i ≡ n → ⊥) → slot_at behind i ≡ slot_at before i) where

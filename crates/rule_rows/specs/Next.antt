@@ -2,15 +2,15 @@
 -- Assumes nothing.
 use Rattle.std.specs.Prelude.{◌≡◌, List, ℕ, Option, Some, None, Result, Ok}
 use Rattle.limits.specs.declared.Limits.{Limits}
+use Rattle.rules.specs.Rules.{Steppable}
 use Rattle.rules.specs.Steps.{code_step, code_start}
 use Rattle.rules.specs.declared.NodeRule.{NodeRule}
-use Rattle.steppers.specs.declared.Stepper.TheVariants.{OfRule}
 use Rattle.machine_rows.specs.Builds.{BuildsTo, Buildable}
 use Rattle.machine_rows.specs.declared.OverLimit.{OverLimit}
 
 abbrev pub NextBuildable : Option NodeRule → (work : List ℕ) (n actions : ℕ) (limits : Limits) → List ℕ → Type 0
 NextBuildable None work n actions limits values = Unit {0}
-NextBuildable (Some rule) work n actions limits values = Buildable (record { stepper = OfRule rule; slot = n; actions = actions; limits = limits }) work values
+NextBuildable (Some rule) work n actions limits values = Steppable work rule × Buildable (record { slot = n; actions = actions; limits = limits }) work values
 
 -- A rule's machine is built into slot n; where there is none, the work area is as it was.
 abbrev pub NextTo : Option NodeRule → (actions : ℕ) (limits : Limits) (n : ℕ) → Result ℕ OverLimit → List ℕ → List ℕ → Type 0

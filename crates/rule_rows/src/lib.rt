@@ -7,7 +7,6 @@ ghost use Rattle.rule_rows.specs.Lists.{FinishesTo, AllBuildable};
 use limits::Limits;
 use machine_rows::{OverLimit, Plan, build_slot};
 use rules::NodeRule;
-use steppers::Stepper;
 
 // The first node whose rule is over a limit, and which one.
 #[derive(Clone, Copy, PartialEq, Eq)]
@@ -32,12 +31,11 @@ fn build_next(
         return Ok(0);
     };
     let plan = Plan {
-        stepper: Stepper::OfRule(rule),
         slot: n,
         actions,
         limits,
     };
-    build_slot(plan, work, values)
+    build_slot(rule, plan, work, values)
 }
 
 // Builds each rule of a list in its order, each in its own slot. Gives the number of rows of the last one.

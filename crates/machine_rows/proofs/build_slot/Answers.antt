@@ -4,4 +4,4 @@ use Rattle.machine_rows.proofs.Building.{rows-wider}
 use Rattle.machine_rows.proofs.build_slot.Goals as goal
 
 pub returns-in-Ok : goal.returns-in-Ok
-returns-in-Ok c = rows-wider _ (omega arith) c.in-Ok.ensures
+returns-in-Ok g c = rows-wider _ (omega arith) c.in-Ok.ensures
