@@ -17,7 +17,7 @@ use Rattle.syntax.specs.Faults.{number_of, spot_of}
 use Rattle.syntax.specs.declared.Fault.{Fault}
 use Rattle.syntax.specs.declared.Fault.TheVariants.{Length, Counts, Areas as WrongAreas, UnknownKindAt, WrongFieldAt, WrongTypeAt, BoundAt}
 use Rattle.syntax.specs.declared.Sheet.{Sheet}
-use Rattle.syntax.specs.declared.TypedNode.{TypedNode}
+use Rattle.syntax.specs.declared.NodeType.{NodeType}
 use Rattle.typing.specs.Typed.{Judgement, faulty, sound}
 use Rattle.renumbering.specs.FirstFault.{FirstFault, unfit, too_long, no-policy}
 use Rattle.renumbering.specs.SameUsed.{SameUsed}
@@ -118,7 +118,7 @@ module _ (bytes : List ℕ) (limits : Limits) where
     by-fault : (f : Fault) → judge bytes ≡ faulty f → Reason (number_of f) (spot_of f)
     by-limit : {n number : ℕ} → FirstOver bytes limits n number → Reason number n
 
-  built-reason : {mode : Mode} {sheet : Sheet} {types : List TypedNode} → judge bytes ≡ sound mode sheet types → {number spot : ℕ} {t : List ℕ}
+  built-reason : {mode : Mode} {sheet : Sheet} {types : List NodeType} → judge bytes ≡ sound mode sheet types → {number spot : ℕ} {t : List ℕ}
       → Builds mode sheet types limits (refused number spot) t → Reason number spot
   built-reason {mode} {sheet} {types} j (stops tables n number h built p over) =
       by-limit (record { sheet = sheet; read = record { mode = mode; types = types; judged = j }; tables = tables; inside = h; before = built; policy = p; over = over })

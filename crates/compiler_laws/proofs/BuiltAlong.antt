@@ -14,7 +14,7 @@ use Rattle.syntax.specs.Formed.{Formed}
 use Rattle.syntax.specs.Nodes.{propositions_of}
 use Rattle.syntax.specs.Types.{type_at}
 use Rattle.syntax.specs.declared.Sheet.{Sheet}
-use Rattle.syntax.specs.declared.TypedNode.{TypedNode}
+use Rattle.syntax.specs.declared.NodeType.{NodeType}
 use Rattle.reached.specs.Reached.{itself}
 use Rattle.reached.specs.Parts.{Used}
 use Rattle.reached.proofs.NodeSets.{used-below}
@@ -70,7 +70,7 @@ module _ {sheet other : Sheet} (formed : Formed sheet) (formed' : Formed other) 
         rows (λ h. few (subst (λ X. X) (values-along n u tables limits.values) h)) (subst (λ X. X) (sym (rows-along n u limits.rows)) over)
 
   -- types that agree along the numbers
-  module _ (types types' : List TypedNode) (agree : (n : ℕ) → Used sheet n → type_at types n ≡ type_at types' (same.to n))
+  module _ (types types' : List NodeType) (agree : (n : ℕ) → Used sheet n → type_at types n ≡ type_at types' (same.to n))
       (limits : Limits) where
     policy-there : {n : ℕ} → PolicyNode sheet types n → PolicyNode other types' (same.to n)
     policy-there {n} p = record { used = same.used n p.used; mode = p.mode; bound = p.bound; is = sym (agree n p.used) ∙ p.is }

@@ -13,7 +13,7 @@ use Rattle.limits.specs.declared.Limits.{Limits}
 use Rattle.limits.specs.Limits.{largest}
 use Rattle.table.specs.Answer.{Answer, accepted, refused}
 use Rattle.syntax.specs.declared.Sheet.{Sheet}
-use Rattle.syntax.specs.declared.TypedNode.{TypedNode}
+use Rattle.syntax.specs.declared.NodeType.{NodeType}
 use Rattle.compiler.specs.Compiles.{Builds, stops, Compiles, faulted, passes}
 use Rattle.making.specs.Making.{IsTable, Areas, short, makes}
 use Rattle.making.proofs.Calls.{made-determined, refused-leaves, front-made}
@@ -42,7 +42,7 @@ module _ {bytes out work values : List ℕ} where
   call-table-exactly areas (makes a x t c) = table-exactly-unless-refused bytes largest c
 
 -- a refusal has no table
-built-none : {mode : Mode} {sheet : Sheet} {types : List TypedNode} {limits : Limits} {number spot : ℕ} {written : List ℕ}
+built-none : {mode : Mode} {sheet : Sheet} {types : List NodeType} {limits : Limits} {number spot : ℕ} {written : List ℕ}
     → Builds mode sheet types limits (refused number spot) written → written ≡ []
 built-none (stops tables n number h built p over) = refl
 

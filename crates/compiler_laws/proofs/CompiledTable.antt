@@ -17,7 +17,7 @@ use Rattle.syntax.specs.Nodes.{propositions_of}
 use Rattle.syntax.specs.Meaning.{sheet_policy}
 use Rattle.typing.specs.Typed.{sound, SoundSheet}
 use Rattle.syntax.specs.declared.Sheet.{Sheet}
-use Rattle.syntax.specs.declared.TypedNode.{TypedNode}
+use Rattle.syntax.specs.declared.NodeType.{NodeType}
 use Rattle.typing.proofs.Meanings.{policy-of}
 use Rattle.sheet_judge.specs.Judge.{judge}
 use Rattle.node_rules.specs.Nodes.{trips_node}
@@ -54,7 +54,7 @@ pub record CompiledAs (bytes : List ℕ) (type actions rows : ℕ) (written : Li
   pub read : ReadAs bytes sheet
   pub table : TableOf sheet type actions rows written
 
-module _ {mode : Mode} {sheet : Sheet} {types : List TypedNode} (right : SoundSheet mode sheet types) {rows : ℕ} {written : List ℕ}
+module _ {mode : Mode} {sheet : Sheet} {types : List NodeType} (right : SoundSheet mode sheet types) {rows : ℕ} {written : List ℕ}
     (made : MadeOf (mode_number mode) sheet.actions (trips_sheet sheet) rows written) where
   gives : (w : List ℕ) → Sequence sheet.actions w → verdict written w ≡ satisfies (propositions_of sheet) (sheet_policy sheet) w
   gives w s =
@@ -75,17 +75,17 @@ module _ {mode : Mode} {sheet : Sheet} {types : List TypedNode} (right : SoundSh
         verdicts = gives;
       }
 
-built-type : {mode : Mode} {sheet : Sheet} {types : List TypedNode} {limits : Limits} {type actions rows : ℕ} {written : List ℕ}
+built-type : {mode : Mode} {sheet : Sheet} {types : List NodeType} {limits : Limits} {type actions rows : ℕ} {written : List ℕ}
     → Builds mode sheet types limits (accepts type actions rows) written → type ≡ mode_number mode
 built-type (builds tables built last) = refl
 
 -- The type of a compiled table is that of its sheet, under whatever limits.
-pub compiled-type : {bytes : List ℕ} {mode : Mode} {sheet : Sheet} {types : List TypedNode} → judge bytes ≡ sound mode sheet types
+pub compiled-type : {bytes : List ℕ} {mode : Mode} {sheet : Sheet} {types : List NodeType} → judge bytes ≡ sound mode sheet types
     → {limits : Limits} {type actions rows : ℕ} {written : List ℕ} → Compiles bytes limits (accepts type actions rows) written → type ≡ mode_number mode
 compiled-type {mode = mode} j (passes other sheet types k answer written b) = built-type b ∙ ap mode_number (let e : other ≡ mode = cc in e)
 
 module _ (bytes : List ℕ) (limits : Limits) (small : limits.rows ≤ 64) where
-  from-built : {mode : Mode} {sheet : Sheet} {types : List TypedNode} → judge bytes ≡ sound mode sheet types → {type actions rows : ℕ} {written : List ℕ}
+  from-built : {mode : Mode} {sheet : Sheet} {types : List NodeType} → judge bytes ≡ sound mode sheet types → {type actions rows : ℕ} {written : List ℕ}
       → Builds mode sheet types limits (accepts type actions rows) written → CompiledAs bytes type actions rows written
   from-built {mode} {sheet} {types} j (builds tables built last) =
       record {

@@ -16,7 +16,7 @@ use Rattle.syntax.specs.Nodes.{propositions_of}
 use Rattle.syntax.specs.Meaning.{sheet_policy}
 use Rattle.typing.specs.Typed.{sound, SoundSheet}
 use Rattle.syntax.specs.declared.Sheet.{Sheet}
-use Rattle.syntax.specs.declared.TypedNode.{TypedNode}
+use Rattle.syntax.specs.declared.NodeType.{NodeType}
 use Rattle.trace.specs.declared.Mode.{Mode}
 use Rattle.limits.specs.declared.Limits.{Limits}
 use Rattle.sheet_judge.specs.Judge.{judge}
@@ -31,7 +31,7 @@ use Rattle.compiler_laws.proofs.Outcome.{over-values-same, tables_agree, not-fau
 use Rattle.compiler_laws.proofs.CompiledTable.{TableOf, compiled-table, compiled-as}
 
 module _ (bytes : List ℕ) (limits : Limits) where
-  gets-built : {mode : Mode} {sheet : Sheet} {types : List TypedNode} {type actions rows : ℕ} {written : List ℕ} → judge bytes ≡ sound mode sheet types
+  gets-built : {mode : Mode} {sheet : Sheet} {types : List NodeType} {type actions rows : ℕ} {written : List ℕ} → judge bytes ≡ sound mode sheet types
       → Builds mode sheet types limits (accepted type actions rows) written → InsideLimits bytes limits
   gets-built {mode} {sheet} {types} j (builds tables built last) =
       record { sheet = sheet; read = record { mode = mode; types = types; judged = j }; tables = tables; built = built }
@@ -97,10 +97,10 @@ module _ (bytes : List ℕ) (limits : Limits) where
 
   -- a sheet that no refusal applies to
   module _ (u : NoRefusal bytes limits) where
-    pub none_over : {mode : Mode} {sheet : Sheet} {types : List TypedNode} → judge bytes ≡ sound mode sheet types → NoneOver sheet types limits
+    pub none_over : {mode : Mode} {sheet : Sheet} {types : List NodeType} → judge bytes ≡ sound mode sheet types → NoneOver sheet types limits
     none_over {mode} {sheet} {types} j =
         subst (λ (s : Sheet). NoneOver s types limits) same-sheet
-        (subst (λ (l : List TypedNode). NoneOver u.sheet l limits) same-types u.none)
+        (subst (λ (l : List NodeType). NoneOver u.sheet l limits) same-types u.none)
       where
         same-sheet : u.sheet ≡ sheet
         same-sheet = cc u.read.judged
@@ -108,12 +108,12 @@ module _ (bytes : List ℕ) (limits : Limits) where
         same-types : u.read.types ≡ types
         same-types = cc u.read.judged
 
-    stops-none : {sheet : Sheet} {types : List TypedNode} {tables : Tables} {n number : ℕ} → NoneOver sheet types limits → n < sheet.count
+    stops-none : {sheet : Sheet} {types : List NodeType} {tables : Tables} {n number : ℕ} → NoneOver sheet types limits → n < sheet.count
         → BuiltBefore sheet types tables limits n → PolicyNode sheet types n → StopsAt sheet tables limits n number → ⊥
     stops-none {tables = tables} {n} none h built p (values over) = none.few-values tables n h built p over
     stops-none {tables = tables} {n} none h built p (rows few over) = none.few-rows tables n h built p over
 
-    built-table : {mode : Mode} {sheet : Sheet} {types : List TypedNode} {x : Answer} {t : List ℕ} → judge bytes ≡ sound mode sheet types
+    built-table : {mode : Mode} {sheet : Sheet} {types : List NodeType} {x : Answer} {t : List ℕ} → judge bytes ≡ sound mode sheet types
         → Builds mode sheet types limits x t → IsTable x
     built-table j (stops tables n number h built p over) = absurd (stops-none (none_over j) h built p over)
     built-table j (builds tables built last) = tt

@@ -17,7 +17,7 @@ use Rattle.syntax.specs.Faults.{number_of, spot_of}
 use Rattle.syntax.specs.Types.{type_at}
 use Rattle.typing.specs.Typed.{faulty, sound, SoundSheet}
 use Rattle.syntax.specs.declared.Sheet.{Sheet}
-use Rattle.syntax.specs.declared.TypedNode.{TypedNode}
+use Rattle.syntax.specs.declared.NodeType.{NodeType}
 use Rattle.syntax.specs.declared.Fault.{Fault}
 use Rattle.syntax.proofs.NodeTypes.{PolicyBefore}
 use Rattle.sheet_judge.specs.Judge.{judge}
@@ -30,10 +30,10 @@ use Rattle.compiler.proofs.BuiltNodes.{policy-node}
 use Rattle.compiler.proofs.Passed.{passed}
 
 -- Two lists of rows agree on the used policy nodes before n.
-abbrev pub AgreeBefore : Sheet → List TypedNode → Tables → Tables → ℕ → Type 0
+abbrev pub AgreeBefore : Sheet → List NodeType → Tables → Tables → ℕ → Type 0
 AgreeBefore sheet types tables other n = (i : ℕ) → i < n → PolicyNode sheet types i → tables i ≡ other i
 
-module _ {mode : Mode} {sheet : Sheet} {types : List TypedNode} (right : SoundSheet mode sheet types) where
+module _ {mode : Mode} {sheet : Sheet} {types : List NodeType} (right : SoundSheet mode sheet types) where
   -- Refusal 8 depends on the rows of the parts alone.
   module _ (n : ℕ) (inside : n < sheet.count) (policy : PolicyNode sheet types n) (tables other : Tables) (agree : AgreeBefore sheet types tables other n) where
     part_same : (i : ℕ) → PolicyBefore (type_at types) n i → part_of sheet tables i ≡ part_of sheet other i
@@ -113,7 +113,7 @@ module _ {mode : Mode} {sheet : Sheet} {types : List TypedNode} (right : SoundSh
         (cc e.0, cc (e.0, e.1))
 
 -- what is judged sound is no fault, and is one sheet
-pub not-faulty : {X : Type 0} (bytes : List ℕ) {mode : Mode} {sheet : Sheet} {types : List TypedNode} → judge bytes ≡ sound mode sheet types → (f : Fault) → judge bytes ≡ faulty f → X
+pub not-faulty : {X : Type 0} (bytes : List ℕ) {mode : Mode} {sheet : Sheet} {types : List NodeType} → judge bytes ≡ sound mode sheet types → (f : Fault) → judge bytes ≡ faulty f → X
 not-faulty bytes e f d = absurd (let z : ◌≡◌ {A = ℕ} 0 1 = cc in omega arith)
 
 -- The answer to a sheet, and its table, are determined by the sheet: what compiling gives is a function of the bytes and the limits.
@@ -127,7 +127,7 @@ compiles-determined bytes limits (passes mode sheet types j x t b) (faulted f e)
 compiles-determined bytes limits (passes mode sheet types j x t b) (passes mode' sheet' types' j' y u b') =
     builds-determined (passed bytes j) limits b
     (subst (λ (m : Mode). Builds m sheet types limits y u) same-mode
-    (subst (λ (s : Sheet). Builds mode' s types limits y u) same-sheet (subst (λ (l : List TypedNode). Builds mode' sheet' l limits y u) same-types b')))
+    (subst (λ (s : Sheet). Builds mode' s types limits y u) same-sheet (subst (λ (l : List NodeType). Builds mode' sheet' l limits y u) same-types b')))
   where
     same-mode : mode' ≡ mode
     same-mode = cc

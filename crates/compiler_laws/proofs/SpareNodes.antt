@@ -15,7 +15,7 @@ use Rattle.syntax.specs.Faults.{number_of, spot_of}
 use Rattle.syntax.specs.Types.{type_at}
 use Rattle.syntax.specs.declared.Fault.{Fault}
 use Rattle.syntax.specs.declared.Sheet.{Sheet}
-use Rattle.syntax.specs.declared.TypedNode.{TypedNode}
+use Rattle.syntax.specs.declared.NodeType.{NodeType}
 use Rattle.reached.specs.Parts.{Used}
 use Rattle.typing.specs.Typed.{Judgement, faulty, sound}
 use Rattle.renumbering.specs.SameUsed.{SameUsed, SameJudgement, both-faulty, both-sound}
@@ -47,7 +47,7 @@ module _ {bytes other : List ℕ} {sheet sheet' : Sheet} (read : ReadFrom bytes 
         (record { answer = refused (number_of f) (spot_of f); written = []; gives = faulted f e; alike = same_number (number_of f) (spot_of f) })
 
     -- where it is sound, so is the first, and what it builds is built
-    sound-given : (mode : Mode) (types types' : List TypedNode) → ((n : ℕ) → Used sheet n → type_at types n ≡ type_at types' (same.to n))
+    sound-given : (mode : Mode) (types types' : List NodeType) → ((n : ℕ) → Used sheet n → type_at types n ≡ type_at types' (same.to n))
         → judge bytes ≡ sound mode sheet types → {answer : Answer} {written : List ℕ} → Builds mode sheet' types' limits answer written
         → Given answer written
     sound-given mode types types' agree e b =
@@ -66,7 +66,7 @@ module _ {bytes other : List ℕ} {sheet sheet' : Sheet} (read : ReadFrom bytes 
         sound-given mode types types' agree p
         (subst (λ (m : Mode). Builds m sheet' types' limits answer written) same-mode
         (subst (λ (x : Sheet). Builds mode' x types' limits answer written) same-sheet
-        (subst (λ (l : List TypedNode). Builds mode' s l limits answer written) same-types b)))
+        (subst (λ (l : List NodeType). Builds mode' s l limits answer written) same-types b)))
       where
         same-mode : mode' ≡ mode
         same-mode = cc

@@ -8,7 +8,7 @@ use Rattle.limits.specs.declared.Limits.{Limits}
 use Rattle.table.specs.Answer.{refused}
 use Rattle.typing.specs.Typed.{SoundSheet}
 use Rattle.syntax.specs.declared.Sheet.{Sheet}
-use Rattle.syntax.specs.declared.TypedNode.{TypedNode}
+use Rattle.syntax.specs.declared.NodeType.{NodeType}
 use Rattle.node_rules.specs.Nodes.{Tables}
 use Rattle.compiler.specs.Compiles.{StopsAt, values, rows, Builds, stops, Compiles, faulted, passes}
 use Rattle.compiler.proofs.Passed.{passed}
@@ -18,7 +18,7 @@ stop-low : {sheet : Sheet} {tables : Tables} {limits : Limits} {n number : ℕ} 
 stop-low (values over) = omega arith
 stop-low (rows few over) = omega arith
 
-build-low : {mode : Mode} {sheet : Sheet} {types : List TypedNode} {limits : Limits} {number spot : ℕ} {written : List ℕ} → SoundSheet mode sheet types
+build-low : {mode : Mode} {sheet : Sheet} {types : List NodeType} {limits : Limits} {number spot : ℕ} {written : List ℕ} → SoundSheet mode sheet types
     → Builds mode sheet types limits (refused number spot) written → (number < 10) × (spot < 64)
 build-low right (stops tables n number h built p over) = (stop-low over, omega (arith, right.formed.few-nodes))
 

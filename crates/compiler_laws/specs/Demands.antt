@@ -10,7 +10,7 @@ use Rattle.syntax.specs.Nodes.{propositions_of}
 use Rattle.syntax.specs.Meaning.{sheet_policy}
 use Rattle.typing.specs.Typed.{sound}
 use Rattle.syntax.specs.declared.Sheet.{Sheet}
-use Rattle.syntax.specs.declared.TypedNode.{TypedNode}
+use Rattle.syntax.specs.declared.NodeType.{NodeType}
 use Rattle.sheet_judge.specs.Judge.{judge}
 use Rattle.node_rules.specs.Nodes.{Tables, trips_node}
 use Rattle.compiler.specs.Limits.{OverValues, OverRows}
@@ -19,7 +19,7 @@ use Rattle.compiler.specs.Compiles.{PolicyNode, BuiltBefore, Compiles}
 -- The bytes are well formed and well typed (checks 1 to 7 pass), and this is the sheet that is read from them.
 pub record ReadAs (bytes : List ℕ) (sheet : Sheet) : Type 0 where
   pub mode : Mode
-  pub types : List TypedNode
+  pub types : List NodeType
   pub judged : judge bytes ≡ sound mode sheet types
 
 -- Bytes are compiled: they get a table.
@@ -38,7 +38,7 @@ pub record InsideLimits (bytes : List ℕ) (limits : Limits) : Type 0 where
   pub built : BuiltBefore sheet read.types tables limits sheet.count
 
 -- No used policy node whose earlier ones are inside the limits is over a limit.
-pub record NoneOver (sheet : Sheet) (types : List TypedNode) (limits : Limits) : Type 0 where
+pub record NoneOver (sheet : Sheet) (types : List NodeType) (limits : Limits) : Type 0 where
   pub few-values : (tables : Tables) (n : ℕ) → n < sheet.count → BuiltBefore sheet types tables limits n → PolicyNode sheet types n
       → OverValues sheet tables n limits.values → ⊥
   pub few-rows : (tables : Tables) (n : ℕ) → n < sheet.count → BuiltBefore sheet types tables limits n → PolicyNode sheet types n
