@@ -3,8 +3,6 @@
 use mathlib.Core.Path.{◌≡◌, refl, sym, ◌∙◌}
 use mathlib.Core.List.{List, [], ◌∷◌}
 use mathlib.Core.Option.{Option, none, some}
-use Prim.Native.Nat.{ℕ}
-use native.Mathlib.Omega.{arith}
 use Rattle.grammar.specs.Words.{Word}
 use Rattle.grammar.specs.Spelling.{whether, token_of}
 use Rattle.grammar.specs.Productions.{Fits, watch, enforce, now-w, count-w, not-w, and-w, or-w, eventually-w, before-w, after-w, ignoring-w, holds-e, not-e, and-e, or-e, always-e, before-e, after-e, fulfilling-e, ignoring-e, true-a, false-a, proposition-a, not_a, and-a, or-a, number, Misfit}
@@ -76,7 +74,7 @@ fits-parts or-a = refl
 fits-parts (number {k} l h) = rw (number-token k l h)
 
 no : {X : Type 0} {parts : List Category} → none ≡ some parts → X
-no e = absurd (let z : ◌≡◌ {A = ℕ} 0 1 = cc in omega arith)
+no e = cc
 
 -- A word that has no parts in the table does not fit.
 pub misfit : (c : Category) (w : Word) → parts_of (token_of w) c ≡ none → Misfit c w

@@ -6,7 +6,6 @@ use mathlib.Core.Bool.{Bool, true, false, cond, not, ◌&&◌, ◌||◌}
 use mathlib.Core.List.{List, [], ◌∷◌, ◌++◌}
 use mathlib.Core.Option.{Option, none, some}
 use Prim.Native.Nat.{ℕ, zero, suc, ◌≤◌, ◌<◌, zero-le, suc-le-suc}
-use native.Mathlib.Omega.{arith}
 use native.Mathlib.Nat.{le_of_suc-le-suc, not-suc-le-zero, zero-lt-suc}
 use lib.ListN.{length, take, drop}
 use Rattle.trace.proofs.Laws.{not-both}
@@ -105,7 +104,7 @@ never false none e = (refl, refl)
 never false (some m) e = (cc, cc)
 
 none-some : {A : Type 0} {n : ℕ} → ◌≡◌ {A = Option ℕ} none (some n) → A
-none-some e = absurd (let z : ◌≡◌ {A = ℕ} 0 1 = cc in omega arith)
+none-some e = cc
 
 shortest : (w : List ℕ) (P : Property) (n : ℕ) → first P w ≡ some n → Shortest P w n
 shortest [] P zero e = (zero-le, at_once (P []) none e, λ m h. absurd (not-suc-le-zero h))

@@ -4,15 +4,11 @@ use mathlib.Core.Path.{◌≡◌, refl, sym, ap}
 use mathlib.Core.Logic.{◌↔◌}
 use mathlib.Core.Bool.{Bool, true, false, cond}
 use Prim.Native.Nat.{ℕ}
-use native.Mathlib.Omega.{arith}
 use Rattle.policy.specs.Policy.{Policy, fulfilling}
 use Rattle.std.proofs.Common.{None}
 use Rattle.policy.specs.Typing.{Mode, watched, enforced, Bound, Typing, typed, if_typed, if_watched, if_enforced, on_mode, policy_type}
 use Rattle.policy.specs.Waits.{FulfillingTyped}
 use Rattle.policy.specs.Trips.{Typed}
-
-not-typed : {A : Type 0} {m : Mode} {k : Bound} → None ≡ typed m k → A
-not-typed e = absurd (let z : ◌≡◌ {A = ℕ} 0 1 = cc in omega arith)
 
 -- equal types have one mode and one bound
 pub same-type : {m n : Mode} {j k : Bound} → typed m j ≡ typed n k → (m ≡ n) × (j ≡ k)
@@ -23,19 +19,19 @@ same-type {m} {n} {j} {k} e =
 pub from-typed : (s : Typing) (f : Mode → Bound → Typing) {m : Mode} {k : Bound} → if_typed s f ≡ typed m k
     → (n : Mode) × (j : Bound) × (s ≡ typed n j) × (f n j ≡ typed m k)
 from-typed (typed n j) f e = (n, j, refl, e)
-from-typed None f e = not-typed e
+from-typed None f e = cc
 
 pub from-watched : (s : Typing) (f : Bound → Typing) {m : Mode} {k : Bound} → if_watched s f ≡ typed m k
     → (j : Bound) × (s ≡ typed watched j) × (f j ≡ typed m k)
 from-watched (typed watched j) f e = (j, refl, e)
-from-watched (typed enforced j) f e = not-typed e
-from-watched None f e = not-typed e
+from-watched (typed enforced j) f e = cc
+from-watched None f e = cc
 
 pub from-enforced : (s : Typing) (f : Bound → Typing) {m : Mode} {k : Bound} → if_enforced s f ≡ typed m k
     → (j : Bound) × (s ≡ typed enforced j) × (f j ≡ typed m k)
-from-enforced (typed watched j) f e = not-typed e
+from-enforced (typed watched j) f e = cc
 from-enforced (typed enforced j) f e = (j, refl, e)
-from-enforced None f e = not-typed e
+from-enforced None f e = cc
 
 pub from-mode : (n : Mode) (s : Typing) (f g : Bound → Typing) {m : Mode} {k : Bound} → on_mode n (if_watched s f) (if_enforced s g) ≡ typed m k
     → (j : Bound) × (s ≡ typed n j)
@@ -44,7 +40,7 @@ from-mode enforced s f g e = let h = from-enforced s g e in (h.0, h.1)
 
 pub from-cond : (b : Bool) (s : Typing) {m : Mode} {k : Bound} → cond b s None ≡ typed m k → (b ≡ true) × (s ≡ typed m k)
 from-cond true s e = (refl, e)
-from-cond false s e = not-typed e
+from-cond false s e = cc
 
 pub typed-as : {p : Policy} {m : Mode} {k : Bound} → policy_type p ≡ typed m k → Typed p
 typed-as {m} {k} e = record { mode = m; bound = k; has = e }

@@ -53,13 +53,13 @@ module _ (sheet : Sheet) (formed : Formed sheet) where
   none_stuck s typed = absurd (let h = no-further s typed in let g = used-below sheet formed s.in_use in omega arith)
 
   unfit-at : {types : ℕ → NodeType} {n : ℕ} → Used sheet n → TypedBefore sheet types n → type_node (node_of sheet n) types ≡ Err Unfit → Stuck n (Err Unfit)
-  unfit-at {types} u b e = record { types = types; in_use = u; before = b; is = e; none = λ t d. let z : ◌≡◌ {A = ℕ} 0 1 = cc in omega arith }
+  unfit-at {types} u b e = record { types = types; in_use = u; before = b; is = e; none = λ t d. cc }
 
   long-at : {types : ℕ → NodeType} {n : ℕ} → Used sheet n → TypedBefore sheet types n → type_node (node_of sheet n) types ≡ Err TooLong → Stuck n (Err TooLong)
-  long-at {types} u b e = record { types = types; in_use = u; before = b; is = e; none = λ t d. let z : ◌≡◌ {A = ℕ} 0 1 = cc in omega arith }
+  long-at {types} u b e = record { types = types; in_use = u; before = b; is = e; none = λ t d. cc }
 
   differ : {A : Type 0} → ◌≡◌ {A = TypeFound} (Err Unfit) (Err TooLong) → A
-  differ e = absurd (let z : ◌≡◌ {A = ℕ} 0 1 = cc in omega arith)
+  differ e = cc
 
   -- There is one first fault.
   pub one-fault : {f g : Fault} → FirstFault sheet f → FirstFault sheet g → f ≡ g

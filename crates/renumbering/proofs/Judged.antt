@@ -28,9 +28,6 @@ use Rattle.renumbering.specs.FirstFault.{TypedBefore, FirstFault, unfit, too_lon
 use Rattle.renumbering.proofs.Types.{fits-typed}
 use Rattle.renumbering.proofs.FirstFault.{one-fault, one-mode, no-fault}
 
-not-mistyped : {A : Type 0} {f : Fault} {before after : List NodeType} → typed before ≡ mistyped f after → A
-not-mistyped e = absurd (let z : ◌≡◌ {A = ℕ} 0 1 = cc in omega arith)
-
 module _ (used : ℕ) (nodes : List Node) where
   -- a used one of the first n nodes has a fault, and those before it their types
   record FaultAt (n : ℕ) (f : Fault) (after : List NodeType) : Type 0 where
@@ -42,13 +39,13 @@ module _ (used : ℕ) (nodes : List Node) where
     next : type_next at types (type_node (node_at nodes at) (type_at types)) ≡ mistyped f after
 
   fault-from : (n : ℕ) (f : Fault) (after : List NodeType) → type_nodes used nodes n ≡ mistyped f after → FaultAt n f after
-  fault-from zero f after e = not-mistyped e
+  fault-from zero f after e = cc
   fault-from (suc n) f after e = by (fault-from n f after) (type_nodes used nodes n) refl e
     where
       own : (types : List NodeType) → type_nodes used nodes n ≡ typed types → (b : Bool) → bit used n ≡ b
           → cond b (type_next n types (type_node (node_at nodes n) (type_at types))) (typed types) ≡ mistyped f after → FaultAt (suc n) f after
       own types p true u e = record { at = n; below = omega arith; in_use = u; types = types; before = p; next = e }
-      own types p false u e = not-mistyped e
+      own types p false u e = cc
 
       by : (type_nodes used nodes n ≡ mistyped f after → FaultAt n f after) → (o : Typings) → type_nodes used nodes n ≡ o
           → unless_mistyped o (λ types. cond (bit used n) (type_next n types (type_node (node_at nodes n) (type_at types))) (typed types)) ≡ mistyped f after
@@ -80,7 +77,7 @@ module _ (sheet : Sheet) (formed : Formed sheet) where
       before = typed-before a.at (omega (arith, a.below)) a.types a.before
 
       by : (t : TypeFound) → type_node (node_of sheet a.at) (type_at a.types) ≡ t → type_next a.at a.types t ≡ mistyped f after → FirstFault sheet f
-      by (Ok t) q e = not-mistyped e
+      by (Ok t) q e = cc
       by (Err Unfit) q e = let same : WrongTypeAt a.at ≡ f = cc in subst (FirstFault sheet) same (unfit (type_at a.types) a.at in_use before q)
       by (Err TooLong) q e = let same : BoundAt a.at ≡ f = cc in subst (FirstFault sheet) same (too_long (type_at a.types) a.at in_use before q)
 
@@ -105,7 +102,7 @@ module _ (sheet : Sheet) (formed : Formed sheet) where
     where
       to : {j : Judgement} → Told sheet j → j ≡ faulty f → FirstFault sheet f
       to (at-fault g p) e = let same : g ≡ f = cc in subst (FirstFault sheet) same p
-      to (no-faults m types w) e = absurd (let z : ◌≡◌ {A = ℕ} 0 1 = cc in omega arith)
+      to (no-faults m types w) e = cc
 
       from : {j : Judgement} → Told sheet j → FirstFault sheet f → j ≡ faulty f
       from (at-fault g p) q = ap faulty (one-fault sheet formed p q)
@@ -117,7 +114,7 @@ module _ (sheet : Sheet) (formed : Formed sheet) where
   sound-exactly mode = (λ s. (type_at s.0, to s.0 told s.1), λ w. from told w.1)
     where
       to : (types : List NodeType) {j : Judgement} → Told sheet j → j ≡ sound mode sheet types → NoFault mode sheet (type_at types)
-      to types (at-fault g p) e = absurd (let z : ◌≡◌ {A = ℕ} 0 1 = cc in omega arith)
+      to types (at-fault g p) e = cc
       to types (no-faults m all w) e =
           let alike : all ≡ types = cc in
           let also : m ≡ mode = cc in

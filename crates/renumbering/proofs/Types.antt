@@ -24,14 +24,14 @@ use Rattle.renumbering.proofs.Numbering.{part-used}
 
 -- what fits has a type
 formula-typed : ◌≡◌ {A = TypeFound} (Ok Formula) (Ok Unused) → ⊥
-formula-typed e = let z : ◌≡◌ {A = ℕ} 0 1 = cc in omega arith
+formula-typed e = cc
 
 found-typed : (s : Typing) → found s ≡ Ok Unused → ⊥
 found-typed (Typed m k) e = by (bound_fits k) e
   where
     by : (fit : Bool) → cond fit (Ok (Policy m k)) (Err TooLong) ≡ Ok Unused → ⊥
-    by true e = let z : ◌≡◌ {A = ℕ} 0 1 = cc in omega arith
-    by false e = let z : ◌≡◌ {A = ℕ} 0 1 = cc in omega arith
+    by true e = cc
+    by false e = cc
 found-typed None e = unfit e
 
 module _ (types : ℕ → NodeType) where
@@ -39,9 +39,9 @@ module _ (types : ℕ → NodeType) where
   s i = typing_of (types i)
 
   pub fits-typed : (node : Node) → type_node node types ≡ Ok Unused → ⊥
-  fits-typed True e = formula-typed e
-  fits-typed False e = formula-typed e
-  fits-typed (Proposition p) e = formula-typed e
+  fits-typed True e = cc
+  fits-typed False e = cc
+  fits-typed (Proposition p) e = cc
   fits-typed (Negation a) e = formula-typed (from-formula (types a) _ e).1
   fits-typed (Conjunction a b) e = formula-typed (from-formula (types b) _ (from-formula (types a) _ e).1).1
   fits-typed (Disjunction a b) e = formula-typed (from-formula (types b) _ (from-formula (types a) _ e).1).1

@@ -1,12 +1,10 @@
 -- The law of judging: the nodes that are read of a sheet whose areas are found are as judging asks.
 -- Assumes nothing.
-use Rattle.std.proofs.Common.{Err, Ok}
+use Rattle.std.proofs.Common.{Ok}
 use mathlib.Core.Path.{◌≡◌}
 use mathlib.Core.List.{List}
 use Prim.Native.Nat.{ℕ, ◌-◌}
 use native.Mathlib.Omega.{arith}
-use Rattle.syntax.specs.Faults.{Judged}
-use Rattle.syntax.specs.declared.Fault.{Fault}
 use Rattle.reached.specs.Parts.{PartsEarlier}
 use Rattle.sheet_layout.specs.Layout.{node_count, layout_in, layout_of, WellLaid}
 use Rattle.sheet_layout.specs.declared.Layout.{Layout}
@@ -17,9 +15,6 @@ use Rattle.sheet_reading.proofs.ReadNodes.{ReadTo, all_right, no_kind, no_field,
 use Rattle.sheet_reading.proofs.ReadFrom.{formed-node}
 use Rattle.sheet_judge.specs.Judge.{ReadWithin}
 
-not-faulty : {A : Type 0} {f : Fault} → ◌≡◌ {A = Judged} (Err f) (Ok tt) → A
-not-faulty e = absurd (let z : ◌≡◌ {A = ℕ} 0 1 = cc in omega arith)
-
 -- what is read of a sheet whose areas are found
 pub read-within : (bytes : List ℕ) {layout : Layout} → layout_of bytes ≡ Ok layout → ReadWithin layout.nodes (read_nodes bytes layout.nodes)
 read-within bytes {layout} e = rw w.1 (record { some = w.0.some-node; few = w.0.few-nodes; parts = parts (read-to bytes (node_count bytes) w.0.few-nodes) })
@@ -29,5 +24,5 @@ read-within bytes {layout} e = rw w.1 (record { some = w.0.some-node; few = w.0.
 
     parts : {read : NodesRead} → ReadTo bytes (node_count bytes) read → read.judged ≡ Ok tt → PartsEarlier read.nodes (node_count bytes - 1)
     parts (all_right l) s i g = (formed-node bytes i _ (l.each i (omega (arith, w.0.some-node)))).0
-    parts (no_kind j h l x) s i g = not-faulty s
-    parts (no_field j h l x) s i g = not-faulty s
+    parts (no_kind j h l x) s i g = cc
+    parts (no_field j h l x) s i g = cc

@@ -19,7 +19,7 @@ pub long-enough : (bytes : List ℕ) → length_right bytes ≡ true → 9 < len
 long-enough bytes e = leb-true 10 (length bytes) (and-true _ (eqb (total bytes) (length bytes)) e).0
 
 misplaced : {A : Type 0} {f : Fault} {l : Layout} → Err f ≡ Ok l → A
-misplaced e = absurd (let z : ◌≡◌ {A = ℕ} 0 1 = cc in omega arith)
+misplaced e = cc
 
 module _ (bytes : List ℕ) where
   well-laid : length_right bytes ≡ true → counts_right bytes ≡ true → areas_right bytes ≡ true → WellLaid bytes

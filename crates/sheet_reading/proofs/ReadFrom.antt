@@ -61,8 +61,8 @@ module _ (bytes : List ℕ) where
 
         from : {read : NodesRead} → ReadTo bytes sheet.count read → read ≡ all_read sheet.nodes
         from (all_right l) = ap all_read (filled-same one-node l stands)
-        from (no_kind i h l e) = absurd (let q = r.nodes i h in let z : ◌≡◌ {A = ℕ} 0 1 = cc in omega arith)
-        from (no_field i h l e) = absurd (let q = r.nodes i h in let z : ◌≡◌ {A = ℕ} 0 1 = cc in omega arith)
+        from (no_kind i h l e) = let q = r.nodes i h in cc
+        from (no_field i h l e) = let q = r.nodes i h in cc
 
   -- the areas are found, and every node is right
   pub read_all : {layout : Layout} {nodes : List Node} → layout_of bytes ≡ Ok layout → NodesListed bytes layout.nodes nodes

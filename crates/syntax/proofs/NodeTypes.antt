@@ -4,7 +4,6 @@ use Rattle.syntax.specs.declared.TypeError.TheVariants.{Unfit}
 use Rattle.std.proofs.Common.{None, Err, Ok}
 use mathlib.Core.Path.{◌≡◌, refl, sym, ◌∙◌}
 use Prim.Native.Nat.{ℕ, ◌<◌}
-use native.Mathlib.Omega.{arith}
 use Rattle.trace.specs.declared.Mode.{Mode}
 use Rattle.trace.specs.declared.Mode.TheVariants.{Watched, Enforced}
 use Rattle.policy.specs.declared.Bound.{Bound}
@@ -51,12 +50,12 @@ pub record PolicyBefore (types : ℕ → NodeType) (n i : ℕ) : Type 0 where
   pub is : types i ≡ Policy mode bound
 
 pub unfit : {A : Type 0} {t : NodeType} → (Err Unfit) ≡ Ok t → A
-unfit e = absurd (let z : ◌≡◌ {A = ℕ} 0 1 = cc in omega arith)
+unfit e = cc
 
 pub from-formula : (s : NodeType) (x : TypeFound) {t : NodeType} → if_formula s x ≡ Ok t → (s ≡ Formula) × (x ≡ Ok t)
-from-formula Unused x e = unfit e
+from-formula Unused x e = cc
 from-formula Formula x e = (refl, e)
-from-formula (Policy m k) x e = unfit e
+from-formula (Policy m k) x e = cc
 
 -- what is found of parts that have to be policies: nothing where one is not
 module _ (types : ℕ → NodeType) (n : ℕ) where

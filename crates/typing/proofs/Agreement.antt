@@ -22,9 +22,9 @@ use Rattle.syntax.specs.declared.NodeType.TheVariants.{Unused, Formula, Policy}
 use Rattle.syntax.proofs.NodeTypes.{EachPart, FormulaBefore, PolicyBefore, unfit, from-formula}
 
 formula-agrees : (f : ActionFormula) (t : NodeType) → ◌≡◌ {A = TypeFound} (Ok Formula) (Ok t) → Agrees t (formula f)
-formula-agrees f Unused e = absurd (let z : ◌≡◌ {A = ℕ} 0 1 = cc in omega arith)
+formula-agrees f Unused e = cc
 formula-agrees f Formula e = tt
-formula-agrees f (Policy m k) e = absurd (let z : ◌≡◌ {A = ℕ} 0 1 = cc in omega arith)
+formula-agrees f (Policy m k) e = cc
 
 -- a policy of the typing that is found
 policy-agrees : (p : APolicy) (s : Typing) (t : NodeType) → policy_type p ≡ s → found s ≡ Ok t → Agrees t (policy p)
@@ -32,12 +32,12 @@ policy-agrees p (Typed m k) t q e = by (bound_fits k) e
   where
     by : (fit : Bool) → cond fit (Ok (Policy m k)) (Err TooLong) ≡ Ok t → Agrees t (policy p)
     by true e = let same : Policy m k ≡ t = cc in subst (λ (x : NodeType). Agrees x (policy p)) same q
-    by false e = absurd (let z : ◌≡◌ {A = ℕ} 0 1 = cc in omega arith)
-policy-agrees p None t q e = unfit e
+    by false e = cc
+policy-agrees p None t q e = cc
 
 pub agrees-typed : (t : NodeType) (x : Meaning) → Agrees t x → {m : Mode} {k : Bound} → t ≡ Policy m k → policy_type (as_policy x) ≡ typing_of t
 agrees-typed Unused x a e = absurd a
-agrees-typed Formula x a e = absurd (let z : ◌≡◌ {A = ℕ} 0 1 = cc in omega arith)
+agrees-typed Formula x a e = cc
 agrees-typed (Policy m k) (formula f) a e = absurd a
 agrees-typed (Policy m k) (policy p) a e = a
 

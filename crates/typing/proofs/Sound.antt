@@ -29,12 +29,6 @@ use Rattle.reached.specs.Parts.{Used, used_set}
 use Rattle.reached.proofs.NodeParts.{over_equal}
 use Rattle.reached.proofs.NodeSets.{part-below, used-exactly}
 
-not-typed : {A : Type 0} {f : Fault} {before types : List NodeType} → mistyped f before ≡ typed types → A
-not-typed e = absurd (let z : ◌≡◌ {A = ℕ} 0 1 = cc in omega arith)
-
-not_sound : {A : Type 0} {f : Fault} {m : Mode} {s : Sheet} {types : List NodeType} → faulty f ≡ sound m s types → A
-not_sound e = absurd (let z : ◌≡◌ {A = ℕ} 0 1 = cc in omega arith)
-
 -- The types of the first n nodes, in an array of 64: each used one's is made of its parts' types.
 pub record TypesOf (used : ℕ) (nodes : List Node) (n : ℕ) (types : List NodeType) : Type 0 where
   pub sized : length types ≡ 64
@@ -64,8 +58,8 @@ module _ (used : ℕ) (nodes : List Node) where
       found : (before : List NodeType) → bit used n ≡ true → (t : TypeFound) → type_node (node_at nodes n) (type_at before) ≡ t
           → type_next n before t ≡ typed types → Typed n before types
       found before u (Ok t) q e = record { in_use = u; type = t; fits = q; all = cc }
-      found before u (Err Unfit) q e = not-typed e
-      found before u (Err TooLong) q e = not-typed e
+      found before u (Err Unfit) q e = cc
+      found before u (Err TooLong) q e = cc
 
       own : (before : List NodeType) (b : Bool) → bit used n ≡ b
           → cond b (type_next n before (type_node (node_at nodes n) (type_at before))) (typed before) ≡ typed types → Typed n before types ⊎ Passed n before types
@@ -74,7 +68,7 @@ module _ (used : ℕ) (nodes : List Node) where
 
       by : (o : Typings) → type_nodes used nodes n ≡ o
           → unless_mistyped o (λ types. cond (bit used n) (type_next n types (type_node (node_at nodes n) (type_at types))) (typed types)) ≡ typed types → Last n types
-      by (mistyped f t) p e = not-typed e
+      by (mistyped f t) p e = cc
       by (typed before) p e = record { before = before; was = p; next = own before (bit used n) refl e }
 
   more : (n : ℕ) → n < 64 → ((i : ℕ) → i < suc n → PartsBelow i (node_at nodes i)) → {before types : List NodeType} → Typed n before types ⊎ Passed n before types
@@ -136,15 +130,15 @@ from-judged sheet {mode} {other} {types} e = by (type_nodes (used_set sheet) she
   where
     last : (all : List NodeType) → type_nodes (used_set sheet) sheet.nodes sheet.count ≡ typed all → (t : NodeType) → type_at all (sheet.count - 1) ≡ t
         → judge_last sheet all t ≡ sound mode other types → JudgedSound sheet mode other types
-    last all p Unused q e = not_sound e
-    last all p Formula q e = not_sound e
+    last all p Unused q e = cc
+    last all p Formula q e = cc
     last all p (Policy m k) q e =
         let alike : all ≡ types = cc in
         let also : m ≡ mode = cc in
         record { same = cc; all = rw alike at p; bound = k; last = rw also at (rw alike at q) }
 
     by : (o : Typings) → type_nodes (used_set sheet) sheet.nodes sheet.count ≡ o → judge_typed sheet o ≡ sound mode other types → JudgedSound sheet mode other types
-    by (mistyped f t) p e = not_sound e
+    by (mistyped f t) p e = cc
     by (typed all) p e = last all p (type_at all (sheet.count - 1)) refl e
 
 module _ (sheet : Sheet) {mode : Mode} {other : Sheet} {types : List NodeType} (judged : judge_sheet sheet ≡ sound mode other types) where
@@ -171,7 +165,7 @@ module _ {mode : Mode} {sheet : Sheet} {types : List NodeType} (sound : SoundShe
 
 -- what is a formula or a policy has a type
 pub typed-formula : {t : NodeType} → t ≡ Formula → t ≡ Unused → ⊥
-typed-formula e d = let z : ◌≡◌ {A = ℕ} 0 1 = cc in omega arith
+typed-formula e d = cc
 
 pub typed-policy : {t : NodeType} {m : Mode} {k : Bound} → t ≡ Policy m k → t ≡ Unused → ⊥
-typed-policy e d = let z : ◌≡◌ {A = ℕ} 0 1 = cc in omega arith
+typed-policy e d = cc
