@@ -7,6 +7,9 @@ use native.Mathlib.Decide.{ℕ_discrete, dec_lt}
 use native.Mathlib.Omega.{arith}
 use lib.ListN.{length, get_or}
 use borrow.Author.Count.{below_more}
+use borrow.Author.Tests.{lt-leb, le-leb}
+use lib.Dec.{leb}
+use Rattle.base.specs.Build.{Decides}
 use Rattle.automaton.specs.Machine.{FirstMet, Numbered}
 use Rattle.automaton.proofs.Numbering.{met-not-mark, met-inside}
 use Rattle.table.specs.Table.{RowsFit}
@@ -76,14 +79,15 @@ module _ (rows actions : ℕ) (entries : List ℕ) (fit : RowsFit rows actions e
 
   -- at the end
   module _ (met : ℕ) (sc : Scanned rows actions met (length entries) entries) where
-    pub scan-all : met ≡ rows → Numbered 255 rows actions entries
-    scan-all e = record { met = λ s p h. sc.found s p (let z = h in omega arith) }
-
-    pub scan-some : (met ≡ rows → ⊥) → Numbered 255 rows actions entries → ⊥
-    scan-some n num = order (num.met met sc.some below)
+    scan-some : met < rows → Numbered 255 rows actions entries → ⊥
+    scan-some below num = order (num.met met sc.some below)
       where
-        below : met < rows
-        below = omega (arith, sc.few)
-
         order : FirstMet 255 actions entries met → ⊥
         order fm = omega (arith, not_yet met (length entries) sc below fm, met-inside fit.machine below fm, fit.machine.sized)
+
+    pub numbered_exactly : Decides (Numbered 255 rows actions entries) (leb rows met)
+    numbered_exactly =
+        elim (dec_lt met rows) [
+          | yes h ↦ rw (lt-leb rows met h) (scan-some h)
+          | no h ↦ rw (le-leb rows met (omega arith)) (record { met = λ s p g. sc.found s p (omega (arith, sc.few)) })
+        ]

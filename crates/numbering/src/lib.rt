@@ -5,17 +5,14 @@ ghost use Rattle.base.specs.Build.{Decides};
 ghost use Rattle.automaton.specs.Machine.{Numbered};
 ghost use Rattle.table.specs.Table.{RowsFit};
 
-use base::byte;
-
 // Whether the rows are in the stated numbering, each met, and met before it is read.
 pub fn numbered(entries: &[u8], rows: usize, actions: usize) -> bool
     requires { RowsFit rows actions entries.now }
     ensures { Decides (Numbered 255 rows actions entries.now) result }
 {
     let mut met = 1;
-    let mut k = 0;
-    while k < entries.len() {
-        let e = byte(entries[k]);
+    for (k, entry) in entries.iter().enumerate() {
+        let e = usize::from(*entry);
         if e != 255 {
             if met < e {
                 return false;
@@ -27,10 +24,6 @@ pub fn numbered(entries: &[u8], rows: usize, actions: usize) -> bool
                 met += 1;
             }
         }
-        k += 1;
     }
-    if met < rows {
-        return false;
-    }
-    true
+    rows <= met
 }
