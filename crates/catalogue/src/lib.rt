@@ -1,36 +1,24 @@
-// The messages of the program, by their numbers: specs/Catalogue.antt has each by its name.
+// The messages of the program: specs/Catalogue.antt has the text of each by its name.
 #![tactic(auto)]
 
-mod numbers;
+mod message;
 
 ghost use Rattle.messages.specs.Adding.{Adds};
 ghost use Rattle.messages.specs.Message.{filled};
-ghost use Rattle.catalogue.specs.Catalogue.{message_of};
+ghost use Rattle.catalogue.specs.Numbers.{text_of};
 
-pub use numbers::{
-    ACTION_FORM, ACTION_NAME, ACTION_NUMBER, AT_WORD, BRACKET, CAPITAL, CARRIAGE_RETURN, DENIED_AT,
-    DENIED_WORD, DENIER, DENIER_END, DENIES_ALL, DENIES_NOTHING, DOUBLED_ACTION, ENFORCED_COMES,
-    ENFORCED_ONLY, FORMULA_COMES, HELP, IN_FILE, JOINED_ROWS, JOINED_SHEET, JOINED_VALUES,
-    LINE_AND_WORD, LINE_END, LISTED_NAMES, LISTED_NUMBERS, LONG_BOUND, LONG_FILE, LONG_LIST,
-    LONG_RULE, MANY_ACTIONS, MANY_NODES, MANY_ROWS, MANY_RULES, MANY_VALUES, MISPLACED, MISSING,
-    NAME_FORM, NAMED, NAMED_WORD, NEVER_REPORTED, NO_ACTION_HAS, NO_ACTIONS, NO_SUCH_FILE,
-    NO_SUCH_WORD, NODE_ROWS, NODE_VALUES, NONE_DENIED, NOTHING_COMES, NUMBER_COMES, OF_RULE,
-    ONE_FILE, ORDER_MARK, OTHER_ACTIONS, PART, REFUSED_LINE, REPORTED_AT_ONCE, RULE_BEGINS,
-    RULE_NUMBER, SEPARATOR, SOME_FILE, SOME_FILES, TAB, UNKNOWN, UNKNOWN_KIND, WATCHED_ASKED,
-    WATCHED_COMES, WATCHED_JOINED, WATCHED_ONLY, WATCHED_SHEET, WHOLE, WIDE_SPACE, WRONG_ACTION,
-    WRONG_AREAS, WRONG_COUNTS, WRONG_FIELD, WRONG_LENGTH, WRONG_LISTED, WRONG_TYPE,
-};
+pub use message::Message;
 
-// Adds the message of a number, with its holes filled.
+// Adds a message with its holes filled.
 pub fn add_message(
-    number: usize,
+    message: Message,
     first: usize,
     second: usize,
     word: &[u8],
     text: &mut [u8],
     at: usize,
 ) -> usize
-    ensures { Adds text.old at (filled (message_of number) first second word.now) text.new result }
+    ensures { Adds text.old at (filled (text_of message) first second word.now) text.new result }
 {
     message_lists::fill_listed(
         b"\
@@ -125,7 +113,7 @@ pub fn add_message(
             \n\
             For FILE, - is standard input, and so is no FILE after compile. A rule file has the actions on its first line and the rule below it\n\
             (examples/README.md). Actions are given by number, from 0, or by the names of the action list.\n|",
-        number,
+        message.number(),
         first,
         second,
         word,

@@ -1,6 +1,6 @@
 -- Why a word does not fit where something of a category is to come: the first reason that holds.
 -- Assumes nothing.
-use Rattle.std.specs.Prelude.{Bool, true, false, cond, ◌&&◌, ◌||◌, List, [], ◌∷◌, ℕ, leb}
+use Rattle.std.specs.Prelude.{Bool, true, false, cond, ◌&&◌, ◌||◌, List, [], ◌∷◌, ℕ, leb, Option, Some, None, unwrap_or}
 use Rattle.grammar.specs.Spelling.{same, token_of}
 use Rattle.grammar.specs.declared.Token.{Token}
 use Rattle.grammar.specs.declared.Token.TheVariants.{Watch, Enforce, Now, Holds, Count, Not, And, Or, Eventually, Always, Before, After, Fulfilling, Ignoring, True, False, Proposition, Number, Other}
@@ -80,17 +80,17 @@ by_word w expected named =
     (cond (is_watched expected && is_enforced_only w) EnforcedOnly
     (cond (is_other (token_of w)) Unknown Misplaced)))
 
--- by its bytes: a carriage return, a tab, a byte order mark, a non-breaking space, a bracket, a capital letter
-unfoldable pub by_bytes : List ℕ → Misfit → Misfit
-by_bytes w rest =
-    cond (any_between 13 13 w) Return
-    (cond (any_between 9 9 w) Tab
-    (cond (any_between 239 239 w) Mark
-    (cond (any_between 160 160 w) WideSpace
-    (cond (has_bracket w) Bracket
-    (cond (any_between 65 90 w) Capital rest)))))
+-- what it has in it that no word has: a carriage return, a tab, a byte order mark, a non-breaking space, a bracket, a capital letter
+unfoldable pub strange_of : List ℕ → Option Misfit
+strange_of w =
+    cond (any_between 13 13 w) (Some Return)
+    (cond (any_between 9 9 w) (Some Tab)
+    (cond (any_between 239 239 w) (Some Mark)
+    (cond (any_between 160 160 w) (Some WideSpace)
+    (cond (has_bracket w) (Some Bracket)
+    (cond (any_between 65 90 w) (Some Capital) None)))))
 
 unfoldable pub misfit_of : List ℕ → Category → (named : Bool) → Misfit
 misfit_of [] expected named = Missing
 misfit_of (byte ∷ rest) expected named =
-    cond (same (byte ∷ rest) (bytes "---")) Separator (cond (is_end expected) Whole (by_bytes (byte ∷ rest) (by_word (byte ∷ rest) expected named)))
+    cond (same (byte ∷ rest) (bytes "---")) Separator (cond (is_end expected) Whole (unwrap_or (strange_of (byte ∷ rest)) (by_word (byte ∷ rest) expected named)))

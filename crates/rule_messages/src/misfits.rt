@@ -1,7 +1,6 @@
 // Which reason there is that a word does not fit.
-ghost use Rattle.std.specs.Prelude.{◌≡◌, ◌<◌, length, unwrap_or};
-ghost use Rattle.rule_messages.specs.Misfits.{any_between, has_bracket, is_watched_only, is_enforced_only, by_word, by_bytes, misfit_of};
-ghost use Rattle.rule_messages.specs.declared.Misfit.{Misfit};
+ghost use Rattle.std.specs.Prelude.{◌≡◌};
+ghost use Rattle.rule_messages.specs.Misfits.{any_between, has_bracket, is_watched_only, is_enforced_only, strange_of, by_word, misfit_of};
 
 use crate::Misfit;
 use grammar::{Category, Token};
@@ -38,10 +37,10 @@ fn is_enforced_only(word: &[u8]) -> bool
     word == b"holds".as_slice() || word == b"always".as_slice() || word == b"fulfilling".as_slice()
 }
 
-// What a word has in it that no word has: the reason by its bytes.
-#[tactic(auto, unfolding(crate::specs::Misfits::by_bytes))]
+// What a word has in it that no word has.
+#[tactic(auto, unfolding(crate::specs::Misfits::strange_of))]
 pub fn strange(word: &[u8]) -> Option<Misfit>
-    ensures { (others : Misfit) → unwrap_or result others ≡ by_bytes word.now others }
+    ensures { result ≡ strange_of word.now }
 {
     if any_between(word, b'\r', b'\r') {
         return Some(Misfit::Return);

@@ -5,7 +5,6 @@
 mod misfits;
 mod told;
 
-pub use misfits::any_between;
 pub use told::{
     add_denied, add_of_rule, add_of_sheet, add_of_word, add_refused, add_unreadable,
     add_wrong_action, add_wrong_listed, following,

@@ -1,30 +1,26 @@
 // What an operator is told. Each function adds to a text and answers the position after what it wrote.
-ghost use Rattle.std.specs.Prelude.{◌≡◌, [], ◌+◌, ◌<◌, min};
+ghost use Rattle.std.specs.Prelude.{◌≡◌, [], ◌+◌, min, get_or};
 ghost use Rattle.messages.specs.Adding.{Adds};
-ghost use Rattle.messages.specs.Message.{filled};
-ghost use Rattle.catalogue.specs.Catalogue.{message_of};
-ghost use Rattle.told_messages.specs.Told.{refused_text, rule_text, of_rule_text, place_text, of_word_text, expected_message, with_word, unreadable_text, wrong_action_text, sheet_text, wrong_listed_text, denied_text};
+ghost use Rattle.catalogue.specs.Numbers.{text_of};
+ghost use Rattle.told_messages.specs.Told.{refused_text, rule_text, of_rule_text, place_text, of_word_text, expected_message, with_word, unreadable_text, wrong_action_text, sheet_messages, sheet_text, wrong_listed_text, denied_text};
 
-use crate::misfits::{any_between, category_number, choose, misfit, strange};
-use catalogue::{
-    ACTION_FORM, ACTION_NAME, ACTION_NUMBER, DENIED_AT, DENIED_WORD, LINE_AND_WORD, LISTED_NAMES,
-    LISTED_NUMBERS, NAME_FORM, NAMED_WORD, NOTHING_COMES, REFUSED_LINE, RULE_BEGINS, RULE_NUMBER,
-    WRONG_ACTION, WRONG_LISTED, add_message,
-};
+use crate::misfits::{misfit_message, strange_message};
+use catalogue::{Message, add_message};
 use grammar::Category;
+use rule_messages::any_between;
 
 // The number of what comes after so many, from 1; the last that is told is 999,999.
 pub fn following(count: usize) -> usize
     ensures { result ≡ min (count + 1) 999999 }
 {
-    if count < 999999 { count + 1 } else { 999999 }
+    count.min(999998) + 1
 }
 
 // The line of a refusal, as print_table has it.
 pub fn add_refused(number: usize, spot: usize, text: &mut [u8], at: usize) -> usize
     ensures { Adds text.old at (refused_text number spot) text.new result }
 {
-    add_message(REFUSED_LINE, number, spot, b"", text, at)
+    add_message(Message::RefusedLine, number, spot, b"", text, at)
 }
 
 // A rule by its number, where there are several; 0 where there is one.
@@ -34,13 +30,13 @@ fn add_rule(rule: usize, text: &mut [u8], at: usize) -> usize
     if rule == 0 {
         return at;
     }
-    add_message(RULE_NUMBER, rule, 0, b"", text, at)
+    add_message(Message::RuleNumber, rule, 0, b"", text, at)
 }
 
 // A message about a rule.
 pub fn add_of_rule(
     rule: usize,
-    message: usize,
+    message: Message,
     first: usize,
     second: usize,
     text: &mut [u8],
@@ -57,33 +53,40 @@ pub fn add_of_word(
     rule: usize,
     line: usize,
     number: usize,
-    message: usize,
+    message: Message,
     word: &[u8],
     text: &mut [u8],
     at: usize,
 ) -> usize
     ensures { Adds text.old at (of_word_text rule line number message word.now) text.new result }
 {
-    let next = add_of_rule(rule, LINE_AND_WORD, line, number, text, at);
+    let next = add_of_rule(rule, Message::LineAndWord, line, number, text, at);
     add_message(message, 0, 0, word, text, next)
 }
 
 // A message with a word, nothing where there is no word.
-fn add_with_word(message: usize, word: &[u8], text: &mut [u8], at: usize) -> usize
-    ensures { Adds text.old at (with_word (message_of message) word.now) text.new result }
+fn add_with_word(message: Message, word: &[u8], text: &mut [u8], at: usize) -> usize
+    ensures { Adds text.old at (with_word (text_of message) word.now) text.new result }
 {
-    if word.len() == 0 {
+    if word.is_empty() {
         return at;
     }
     add_message(message, 0, 0, word, text, at)
 }
 
 // What comes at a place.
-fn add_expected(expected: usize, text: &mut [u8], at: usize) -> usize
-    requires { expected < 6 }
-    ensures { Adds text.old at (filled (message_of (17 + expected)) 0 0 []) text.new result }
+#[tactic(auto, unfolding(crate::specs::Told::expected_message))]
+fn expected_message(expected: Category) -> Message
+    ensures { text_of result ≡ expected_message expected }
 {
-    add_message(RULE_BEGINS + expected, 0, 0, b"", text, at)
+    match expected {
+        Category::Text => Message::RuleBegins,
+        Category::Watched => Message::WatchedComes,
+        Category::Enforced => Message::EnforcedComes,
+        Category::Formula => Message::FormulaComes,
+        Category::Number => Message::NumberComes,
+        Category::End => Message::NothingComes,
+    }
 }
 
 // 32: a word of a rule does not fit. What the action list has for it, where it is the name of an action.
@@ -99,32 +102,49 @@ pub fn add_unreadable(
 ) -> usize
     ensures { Adds text.old at (unreadable_text rule line number word.now expected listed.now) text.new result }
 {
-    let category = category_number(expected);
-    let message = misfit(word, category, listed.len() != 0);
+    let message = misfit_message(word, expected, !listed.is_empty());
     let reason = add_of_word(rule, line, number, message, word, text, at);
-    let next = add_expected(category, text, reason);
-    add_with_word(NAMED_WORD, listed, text, next)
+    let next = add_message(expected_message(expected), 0, 0, b"", text, reason);
+    add_with_word(Message::NamedWord, listed, text, next)
 }
 
 // 2: a word of the action list is no action.
 pub fn add_wrong_action(number: usize, word: &[u8], text: &mut [u8], at: usize) -> usize
     ensures { Adds text.old at (wrong_action_text number word.now) text.new result }
 {
-    let first = add_message(WRONG_ACTION, number, 0, word, text, at);
-    let second = add_message(strange(word), 0, 0, word, text, first);
-    let third = add_message(ACTION_FORM, 0, 0, b"", text, second);
-    let last = choose(any_between(word, 61, 61), NAME_FORM, NOTHING_COMES);
+    let first = add_message(Message::WrongAction, number, 0, word, text, at);
+    let second = add_message(strange_message(word), 0, 0, word, text, first);
+    let third = add_message(Message::ActionForm, 0, 0, b"", text, second);
+    let last = if any_between(word, b'=', b'=') {
+        Message::NameForm
+    } else {
+        Message::NothingComes
+    };
     add_message(last, 0, 0, b"", text, third)
 }
 
 // 1 to 9: what is refused of a sheet.
+fn sheet_message(number: usize) -> Message
+    ensures { text_of result ≡ get_or sheet_messages number [] }
+{
+    match number {
+        1 => Message::WrongLength,
+        2 => Message::WrongCounts,
+        3 => Message::WrongAreas,
+        4 => Message::UnknownKind,
+        5 => Message::WrongField,
+        6 => Message::WrongType,
+        7 => Message::LongBound,
+        8 => Message::NodeValues,
+        9 => Message::NodeRows,
+        _ => Message::NothingComes,
+    }
+}
+
 pub fn add_of_sheet(number: usize, spot: usize, text: &mut [u8], at: usize) -> usize
     ensures { Adds text.old at (sheet_text number spot) text.new result }
 {
-    if number < 10 {
-        return add_message(NOTHING_COMES + number, spot, 0, b"", text, at);
-    }
-    at
+    add_message(sheet_message(number), spot, 0, b"", text, at)
 }
 
 // 12: a word of a list is no action of so many. The list of these, nothing where they have no list.
@@ -138,9 +158,13 @@ pub fn add_wrong_listed(
 ) -> usize
     ensures { Adds text.old at (wrong_listed_text number word.now actions list.now) text.new result }
 {
-    let first = add_message(WRONG_LISTED, number, 0, word, text, at);
-    let second = add_message(strange(word), 0, 0, word, text, first);
-    let last = choose(list.len() != 0, LISTED_NAMES, LISTED_NUMBERS);
+    let first = add_message(Message::WrongListed, number, 0, word, text, at);
+    let second = add_message(strange_message(word), 0, 0, word, text, first);
+    let last = if list.is_empty() {
+        Message::ListedNumbers
+    } else {
+        Message::ListedNames
+    };
     add_message(last, actions, 0, list, text, second)
 }
 
@@ -155,8 +179,15 @@ pub fn add_denied(
 ) -> usize
     ensures { Adds text.old at (denied_text place node action name.now) text.new result }
 {
-    let first = add_message(DENIED_AT, place, node, b"", text, at);
-    let second = add_message(ACTION_NUMBER, action, 0, b"", text, first);
-    let third = add_with_word(ACTION_NAME, name, text, second);
-    add_message(DENIED_WORD, following(place), place, b"", text, third)
+    let first = add_message(Message::DeniedAt, place, node, b"", text, at);
+    let second = add_message(Message::ActionNumber, action, 0, b"", text, first);
+    let third = add_with_word(Message::ActionName, name, text, second);
+    add_message(
+        Message::DeniedWord,
+        following(place),
+        place,
+        b"",
+        text,
+        third,
+    )
 }

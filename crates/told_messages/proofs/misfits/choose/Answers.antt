@@ -1,8 +1,0 @@
--- `told_messages::misfits::choose` meets its contract.
-use Rattle.told_messages.proofs.misfits.choose.Goals as goal
-
-pub returns-then-test : goal.returns-then-test
-returns-then-test c = rw c.if-test.true
-
-pub returns-else-test : goal.returns-else-test
-returns-else-test c = rw c.if-test.false
