@@ -30,10 +30,10 @@ use Rattle.descent.proofs.Parts.{stuck-here, stuck-still, sane-next, no_part, on
 
 -- What a word that was taken says, and that none was.
 pub word-taken : {text : List ℕ} {p : Progress} {t : Option Taken} {taken : Taken} → Takes text p t → t ≡ Some taken
-    → Here text p taken.token (progress_of taken.behind)
+    → Here text p taken.token (progress_of taken.rest)
 word-taken {text} {p} {taken = taken} (takes-word {taken = other} h) q =
     let same : other ≡ taken = cc in
-    subst (λ (t : Taken). Here text p t.token (progress_of t.behind)) same h
+    subst (λ (t : Taken). Here text p t.token (progress_of t.rest)) same h
 word-taken (takes-nothing x) q = absurd (let z : ◌≡◌ {A = ℕ} 0 1 = cc in omega arith)
 
 pub none-taken : {text : List ℕ} {p : Progress} {t : Option Taken} → Takes text p t → t ≡ None → Exhausted text p

@@ -9,7 +9,7 @@ ghost use Rattle.descent.specs.Parsing.{CanRead, Parses, ParsesNumber, ParsesEnd
 use crate::NumberRead;
 use grammar::{Category, Token};
 use parser_state::{Taken, close_leaf, close_one, close_three, close_two, going, stuck, take_word};
-use sheet_writer::{NODE_ROOM, kinds};
+use sheet_writer::{Kind, NODE_ROOM};
 
 // A number.
 fn read_number(text: &[u8], p: u64) -> NumberRead
@@ -20,12 +20,12 @@ fn read_number(text: &[u8], p: u64) -> NumberRead
         progress: stuck(p, Category::Number),
         number: 0,
     };
-    let Some(Taken { token, behind }) = take_word(text, p) else {
+    let Some(Taken { token, rest }) = take_word(text, p) else {
         return missing;
     };
     match token {
         Token::Number(number) => NumberRead {
-            progress: behind,
+            progress: rest,
             number,
         },
         _ => missing,
@@ -37,32 +37,26 @@ pub fn read_formula(text: &[u8], p: u64, out: &mut [u8; NODE_ROOM]) -> u64
     requires { CanRead text.now (progress_of p) out.old }
     ensures { Parses Formula text.now (progress_of p) out.old (progress_of result) out.new }
 {
-    let Some(
-        Taken {
-            token,
-            behind: parts,
-        },
-    ) = take_word(text, p)
-    else {
+    let Some(Taken { token, rest }) = take_word(text, p) else {
         return stuck(p, Category::Formula);
     };
     match token {
-        Token::True => close_leaf(kinds::TRUE, 0, parts, out),
-        Token::False => close_leaf(kinds::FALSE, 0, parts, out),
-        Token::Proposition(number) => close_leaf(kinds::PROPOSITION, number, parts, out),
+        Token::True => close_leaf(Kind::True, 0, rest, out),
+        Token::False => close_leaf(Kind::False, 0, rest, out),
+        Token::Proposition(number) => close_leaf(Kind::Proposition, number, rest, out),
         Token::Not => {
-            let a = read_formula(text, parts, out);
-            close_one(kinds::NEGATION, a, out)
+            let a = read_formula(text, rest, out);
+            close_one(Kind::Negation, a, out)
         }
         Token::And => {
-            let a = read_formula(text, parts, out);
+            let a = read_formula(text, rest, out);
             let b = read_formula(text, a, out);
-            close_two(kinds::CONJUNCTION, a, b, out)
+            close_two(Kind::Conjunction, a, b, out)
         }
         Token::Or => {
-            let a = read_formula(text, parts, out);
+            let a = read_formula(text, rest, out);
             let b = read_formula(text, a, out);
-            close_two(kinds::DISJUNCTION, a, b, out)
+            close_two(Kind::Disjunction, a, b, out)
         }
         _ => stuck(p, Category::Formula),
     }
@@ -74,56 +68,50 @@ pub fn read_watched(text: &[u8], p: u64, out: &mut [u8; NODE_ROOM]) -> u64
     requires { CanRead text.now (progress_of p) out.old }
     ensures { Parses Watched text.now (progress_of p) out.old (progress_of result) out.new }
 {
-    let Some(
-        Taken {
-            token,
-            behind: parts,
-        },
-    ) = take_word(text, p)
-    else {
+    let Some(Taken { token, rest }) = take_word(text, p) else {
         return stuck(p, Category::Watched);
     };
     match token {
         Token::Now => {
-            let a = read_formula(text, parts, out);
-            close_one(kinds::NOW, a, out)
+            let a = read_formula(text, rest, out);
+            close_one(Kind::Now, a, out)
         }
         Token::Count => {
-            let k = read_number(text, parts);
-            close_leaf(kinds::COUNT, k.number, k.progress, out)
+            let k = read_number(text, rest);
+            close_leaf(Kind::Count, k.number, k.progress, out)
         }
         Token::Not => {
-            let a = read_enforced(text, parts, out);
-            close_one(kinds::NOT, a, out)
+            let a = read_enforced(text, rest, out);
+            close_one(Kind::Not, a, out)
         }
         Token::And => {
-            let a = read_watched(text, parts, out);
+            let a = read_watched(text, rest, out);
             let b = read_watched(text, a, out);
-            close_two(kinds::AND, a, b, out)
+            close_two(Kind::And, a, b, out)
         }
         Token::Or => {
-            let a = read_watched(text, parts, out);
+            let a = read_watched(text, rest, out);
             let b = read_watched(text, a, out);
-            close_two(kinds::OR, a, b, out)
+            close_two(Kind::Or, a, b, out)
         }
         Token::Eventually => {
-            let a = read_watched(text, parts, out);
-            close_one(kinds::EVENTUALLY, a, out)
+            let a = read_watched(text, rest, out);
+            close_one(Kind::Eventually, a, out)
         }
         Token::Before => {
-            let a = read_watched(text, parts, out);
+            let a = read_watched(text, rest, out);
             let b = read_watched(text, a, out);
-            close_two(kinds::BEFORE_MINUS, a, b, out)
+            close_two(Kind::BeforeMinus, a, b, out)
         }
         Token::After => {
-            let a = read_watched(text, parts, out);
+            let a = read_watched(text, rest, out);
             let b = read_watched(text, a, out);
-            close_two(kinds::AFTER_MINUS, a, b, out)
+            close_two(Kind::AfterMinus, a, b, out)
         }
         Token::Ignoring => {
-            let a = read_formula(text, parts, out);
+            let a = read_formula(text, rest, out);
             let b = read_watched(text, a, out);
-            close_two(kinds::IGNORING, a, b, out)
+            close_two(Kind::Ignoring, a, b, out)
         }
         _ => stuck(p, Category::Watched),
     }
@@ -135,59 +123,53 @@ pub fn read_enforced(text: &[u8], p: u64, out: &mut [u8; NODE_ROOM]) -> u64
     requires { CanRead text.now (progress_of p) out.old }
     ensures { Parses Enforced text.now (progress_of p) out.old (progress_of result) out.new }
 {
-    let Some(
-        Taken {
-            token,
-            behind: parts,
-        },
-    ) = take_word(text, p)
-    else {
+    let Some(Taken { token, rest }) = take_word(text, p) else {
         return stuck(p, Category::Enforced);
     };
     match token {
         Token::Holds => {
-            let a = read_formula(text, parts, out);
-            close_one(kinds::HOLDS, a, out)
+            let a = read_formula(text, rest, out);
+            close_one(Kind::Holds, a, out)
         }
         Token::Not => {
-            let a = read_watched(text, parts, out);
-            close_one(kinds::NOT, a, out)
+            let a = read_watched(text, rest, out);
+            close_one(Kind::Not, a, out)
         }
         Token::And => {
-            let a = read_enforced(text, parts, out);
+            let a = read_enforced(text, rest, out);
             let b = read_enforced(text, a, out);
-            close_two(kinds::AND, a, b, out)
+            close_two(Kind::And, a, b, out)
         }
         Token::Or => {
-            let a = read_enforced(text, parts, out);
+            let a = read_enforced(text, rest, out);
             let b = read_enforced(text, a, out);
-            close_two(kinds::OR, a, b, out)
+            close_two(Kind::Or, a, b, out)
         }
         Token::Always => {
-            let a = read_enforced(text, parts, out);
-            close_one(kinds::ALWAYS, a, out)
+            let a = read_enforced(text, rest, out);
+            close_one(Kind::Always, a, out)
         }
         Token::Before => {
-            let a = read_watched(text, parts, out);
+            let a = read_watched(text, rest, out);
             let b = read_enforced(text, a, out);
-            close_two(kinds::BEFORE_PLUS, a, b, out)
+            close_two(Kind::BeforePlus, a, b, out)
         }
         Token::After => {
-            let a = read_watched(text, parts, out);
+            let a = read_watched(text, rest, out);
             let b = read_enforced(text, a, out);
-            close_two(kinds::AFTER_PLUS, a, b, out)
+            close_two(Kind::AfterPlus, a, b, out)
         }
         Token::Fulfilling => {
-            let k = read_number(text, parts);
+            let k = read_number(text, rest);
             let a = read_watched(text, k.progress, out);
             let b = read_enforced(text, a, out);
             let c = read_enforced(text, b, out);
-            close_three(kinds::FULFILLING, k.number, a, b, c, out)
+            close_three(Kind::Fulfilling, k.number, a, b, c, out)
         }
         Token::Ignoring => {
-            let a = read_formula(text, parts, out);
+            let a = read_formula(text, rest, out);
             let b = read_enforced(text, a, out);
-            close_two(kinds::IGNORING, a, b, out)
+            close_two(Kind::Ignoring, a, b, out)
         }
         _ => stuck(p, Category::Enforced),
     }
@@ -210,18 +192,12 @@ pub fn read_rule(text: &[u8], out: &mut [u8; NODE_ROOM]) -> u64
     ensures { ParsesText text.now out.new (progress_of result) × (length out.new ≡ node_room) }
 {
     let front = going(0, 0, 0);
-    let Some(
-        Taken {
-            token,
-            behind: parts,
-        },
-    ) = take_word(text, front)
-    else {
+    let Some(Taken { token, rest }) = take_word(text, front) else {
         return stuck(front, Category::Text);
     };
     match token {
-        Token::Watch => ended(text, read_watched(text, parts, out)),
-        Token::Enforce => ended(text, read_enforced(text, parts, out)),
+        Token::Watch => ended(text, read_watched(text, rest, out)),
+        Token::Enforce => ended(text, read_enforced(text, rest, out)),
         _ => stuck(front, Category::Text),
     }
 }

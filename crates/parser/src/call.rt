@@ -8,7 +8,7 @@ ghost use Rattle.std.specs.Prelude.{◌≤◌, length};
 use crate::{SheetRead, TextError};
 use descent::read_rule;
 use parser_state::{LONGEST_TEXT, Progress, unpack};
-use sheet_writer::{LARGEST_SHEET, no_nodes, write_sheet};
+use sheet_writer::{LARGEST_SHEET, NODE_ROOM, write_sheet};
 
 // Reads a text that is not too long, and writes its sheet.
 fn read_short(text: &[u8], actions: &[u16], out: &mut [u8]) -> Result<SheetRead, TextError>
@@ -17,7 +17,7 @@ fn read_short(text: &[u8], actions: &[u16], out: &mut [u8]) -> Result<SheetRead,
     requires largest_sheet_in_bounds { largest_sheet ≤ length out.old }
     ensures { ReadsAs text.now actions.now out.old (answer_of result) out.new × Tells text.now result }
 {
-    let mut written = no_nodes();
+    let mut written: [u8; NODE_ROOM] = base::room(0);
     let nodes = match unpack(read_rule(text, &mut written)) {
         Progress::Going { nodes, .. } => nodes,
         Progress::Stuck { words, expected } => return Err(TextError::Unreadable(words, expected)),

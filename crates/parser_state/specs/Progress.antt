@@ -73,7 +73,7 @@ Exhausted text (Stuck words expected) = Unit {0}
 
 -- What taking a word gives.
 pub data Takes (text : List ℕ) (p : Progress) : Option Taken → Type 0 where
-  word : {taken : Taken} → Here text p taken.token (progress_of taken.behind) → Takes text p (Some taken)
+  word : {taken : Taken} → Here text p taken.token (progress_of taken.rest) → Takes text p (Some taken)
   nothing : Exhausted text p → Takes text p None
 
 -- A node of these bytes is added where reading goes on.

@@ -31,5 +31,5 @@ pub enum Progress {
 #[derive(Clone, Copy)]
 pub struct Taken {
     pub token: Token,
-    pub behind: u64,
+    pub rest: u64,
 }

@@ -98,6 +98,6 @@ pub fn take_word(text: &[u8], p: u64) -> Option<Taken>
     let word = read_word(text, at)?;
     Some(Taken {
         token: word.token,
-        behind: going(word.end, words + 1, nodes),
+        rest: going(word.end, words + 1, nodes),
     })
 }
