@@ -1,2 +1,3 @@
+pub mod ByLength
 pub mod Scanning
 pub mod Spelled
