@@ -21,13 +21,7 @@ pub fn write_rows(header: Header, slot: usize, work: &[u8], out: &mut [u8])
 {
     let from = slot * SLOT_LENGTH;
     let to = from + header.rows * header.actions;
-    write_table(
-        header.mode,
-        header.actions,
-        header.rows,
-        &work[from..to],
-        out,
-    );
+    write_table(header, &work[from..to], out);
 }
 
 // Builds the rows of a machine, in the large scratch lists, and writes its table to the front of `out`. A refusal writes nothing.
