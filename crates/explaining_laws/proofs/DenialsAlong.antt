@@ -9,7 +9,7 @@ use Rattle.policy.specs.Policy.{satisfies}
 use Rattle.syntax.specs.Nodes.{propositions_of}
 use Rattle.syntax.specs.Shape.{with_parts}
 use Rattle.syntax.specs.declared.Sheet.{Sheet}
-use Rattle.syntax.specs.declared.TypedNode.{TypedNode}
+use Rattle.syntax.specs.declared.NodeType.{NodeType}
 use Rattle.reached.specs.Reached.{itself, onward}
 use Rattle.reached.specs.Parts.{AndPart, left, right, ReachedByAnd, Used}
 use Rattle.typing.specs.Typed.{SoundSheet}
@@ -21,7 +21,7 @@ use Rattle.compiler_laws.specs.Demands.{SameSatisfied}
 use Rattle.explaining.specs.Denials.{policy_node, satisfies_node, LowestViolated}
 use Rattle.explaining.proofs.ReachedNodes.{reached-used}
 
-module _ {mode mode' : Mode} {sheet other : Sheet} {types types' : List TypedNode} (s : SoundSheet mode sheet types)
+module _ {mode mode' : Mode} {sheet other : Sheet} {types types' : List NodeType} (s : SoundSheet mode sheet types)
     (s' : SoundSheet mode' other types') (same : SameUsed sheet other) where
   -- the parts of an And go to the parts of an And
   part-along : {n m : ℕ} → Used sheet n → AndPart sheet n m → AndPart other (same.to n) (same.to m)
@@ -33,7 +33,7 @@ module _ {mode mode' : Mode} {sheet other : Sheet} {types types' : List TypedNod
   reached-along itself = subst (ReachedByAnd other (policy_node other)) (sym (last-to-last s.formed s'.formed same)) itself
   reached-along (onward r p) = onward (reached-along r) (part-along (reached-used s r) p)
 
-module _ {mode mode' : Mode} {sheet other : Sheet} {types types' : List TypedNode} (s : SoundSheet mode sheet types)
+module _ {mode mode' : Mode} {sheet other : Sheet} {types types' : List NodeType} (s : SoundSheet mode sheet types)
     (s' : SoundSheet mode' other types') (same : SameUsed sheet other) (list : propositions_of sheet ≡ propositions_of other) where
   -- The same sequences satisfy a used node in both sheets.
   pub satisfied-along : (n : ℕ) → Used sheet n → (w : List ℕ) → satisfies_node sheet n w ≡ satisfies_node other (same.to n) w

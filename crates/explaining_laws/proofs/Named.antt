@@ -17,7 +17,7 @@ use Rattle.reached.specs.Parts.{left, right}
 use Rattle.typing.specs.Typed.{SoundSheet}
 use Rattle.syntax.specs.declared.Node.TheVariants.{And}
 use Rattle.syntax.specs.declared.Sheet.{Sheet}
-use Rattle.syntax.specs.declared.TypedNode.{TypedNode}
+use Rattle.syntax.specs.declared.NodeType.{NodeType}
 use Rattle.compiler.proofs.Passed.{passed}
 use Rattle.explaining.specs.Denials.{satisfies_node, LowestViolated}
 use Rattle.explaining.specs.Explains.{denied, Explains}
@@ -43,7 +43,7 @@ module _ {sheet : Sheet} (formed : Formed sheet) where
       ∙ l.violated)
 
 -- What the named node of a sound enforced sheet is.
-pub named-is : {sheet : Sheet} {types : List TypedNode} → SoundSheet Enforced sheet types → {list : List ℕ} {place node : ℕ} → DeniedBy sheet list place node
+pub named-is : {sheet : Sheet} {types : List NodeType} → SoundSheet Enforced sheet types → {list : List ℕ} {place node : ℕ} → DeniedBy sheet list place node
     → NamedNode sheet types list place node
 named-is s d =
     let (bound, e) = reached-mode s d.lowest.reached in

@@ -11,22 +11,21 @@ use lib.ListN.{length, take}
 use Rattle.trace.specs.Trace.{Sequence}
 use Rattle.trace.specs.declared.Mode.TheVariants.{Enforced}
 use Rattle.trace.proofs.Laws.{not-both}
-use Rattle.policy.specs.declared.Typing.TheVariants.{Typed}
-use Rattle.policy.specs.Typing.{policy_type}
+use Rattle.policy.specs.Typing.{typed as Typed, policy_type}
 use Rattle.policy.proofs.Typings.{typed-as}
 use Rattle.policy.proofs.Rules.{policy-lasting, enforced-satisfied}
 use Rattle.syntax.specs.Nodes.{propositions_of}
 use Rattle.syntax.specs.Meaning.{sheet_policy}
 use Rattle.typing.specs.Typed.{SoundSheet}
 use Rattle.syntax.specs.declared.Sheet.{Sheet}
-use Rattle.syntax.specs.declared.TypedNode.{TypedNode}
+use Rattle.syntax.specs.declared.NodeType.{NodeType}
 use Rattle.typing.proofs.Meanings.{policy-of}
 use Rattle.explaining.specs.Denials.{policy_node, satisfies_node, NotAnAction, NoneDenied, FirstDenied, LowestViolated}
-use Rattle.explaining.proofs.Walks.{sequence-at}
+use Rattle.explaining.proofs.Walks.{sequence-all}
 
 -- A list of actions has no number that is none.
 pub not-outside : {X : Type 0} {actions : ℕ} {list : List ℕ} → Sequence actions list → NotAnAction actions list → X
-not-outside {list = list} s n = absurd (omega (arith, sequence-at _ list s n.place n.inside, n.beyond))
+not-outside {list = list} s n = absurd (omega (arith, sequence-all _ list s n.place 0 n.inside, n.beyond))
 
 module _ {sheet : Sheet} {list : List ℕ} where
   -- Where no action is denied there is no first denied one.
@@ -51,14 +50,14 @@ module _ {sheet : Sheet} {w : List ℕ} where
       elim (dec_lt n m) [ yes h ↦ absurd (lower a b h) | no h ↦ elim (dec_lt m n) [ yes g ↦ absurd (lower b a g) | no g ↦ omega arith ] ]
 
 -- The empty sequence satisfies an enforced policy.
-pub begins-satisfied : {sheet : Sheet} {types : List TypedNode} → SoundSheet Enforced sheet types → satisfies_node sheet (policy_node sheet) [] ≡ true
+pub begins-satisfied : {sheet : Sheet} {types : List NodeType} → SoundSheet Enforced sheet types → satisfies_node sheet (policy_node sheet) [] ≡ true
 begins-satisfied {sheet} {types} s =
     enforced-satisfied (propositions_of sheet) (sheet_policy sheet) s.bound has [] ∙ ap not (policy-lasting (propositions_of sheet) (sheet_policy sheet) (typed-as has)).empty
   where
     has : policy_type (sheet_policy sheet) ≡ Typed Enforced s.bound
     has = policy-of sheet types s (policy_node sheet) (omega (arith, s.formed.some-node)) s.last
 
-module _ {sheet : Sheet} {types : List TypedNode} (s : SoundSheet Enforced sheet types) (list : List ℕ) where
+module _ {sheet : Sheet} {types : List NodeType} (s : SoundSheet Enforced sheet types) (list : List ℕ) where
   abbrev Satisfied : ℕ → Type 0
   Satisfied k = satisfies_node sheet (policy_node sheet) (take k list) ≡ true
 

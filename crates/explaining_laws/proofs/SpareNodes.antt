@@ -15,7 +15,7 @@ use Rattle.table.specs.Answer.{Answer, accepted}
 use Rattle.table.specs.Answer.{refused as compiler-refused}
 use Rattle.making.specs.Making.{AreasFor, short, makes}
 use Rattle.syntax.specs.declared.Sheet.{Sheet}
-use Rattle.syntax.specs.declared.TypedNode.{TypedNode}
+use Rattle.syntax.specs.declared.NodeType.{NodeType}
 use Rattle.typing.specs.Typed.{Judgement, sound, SoundSheet}
 use Rattle.renumbering.specs.SameUsed.{SameUsed}
 use Rattle.renumbering.proofs.Judged.{Told, at-fault, no-faults, told}
@@ -40,7 +40,7 @@ use Rattle.explaining_laws.proofs.Meanings.{same_none, same_first}
 use Rattle.explaining_laws.proofs.DenialsAlong.{policies-along, lowest-along}
 
 -- what is judged sound is the sheet that is read
-one-read : {bytes : List ℕ} {sheet : Sheet} → ReadFrom bytes sheet → {mode : Mode} {other : Sheet} {types : List TypedNode}
+one-read : {bytes : List ℕ} {sheet : Sheet} → ReadFrom bytes sheet → {mode : Mode} {other : Sheet} {types : List NodeType}
     → judge bytes ≡ sound mode other types → other ≡ sheet
 one-read {bytes} {sheet} read {mode} {other} {types} e = by (told sheet (formed-from bytes read)) (sym (judge-from bytes read) ∙ e)
   where
@@ -64,7 +64,7 @@ refused-alike low (same-refusal number spot) = same_number number spot low
 
 module _ {bytes other : List ℕ} {sheet sheet' : Sheet} (read : ReadFrom bytes sheet) (read' : ReadFrom other sheet')
     (one : OneActionList sheet sheet') (same : SameUsed sheet sheet') where
-  module _ (list : List ℕ) {types types' : List TypedNode} (s : SoundSheet Enforced sheet types) (s' : SoundSheet Enforced sheet' types') where
+  module _ (list : List ℕ) {types types' : List NodeType} (s : SoundSheet Enforced sheet types) (s' : SoundSheet Enforced sheet' types') where
     -- what the other sheet gives is one answer
     settled : {x y z : Explanation} {t u v : List ℕ} → SameExplanation same.to x t y u → Finds sheet' list y u → Finds sheet' list z v
         → SameExplanation same.to x t z v

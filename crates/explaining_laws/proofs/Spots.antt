@@ -11,7 +11,7 @@ use Rattle.syntax.specs.Faults.{number_of}
 use Rattle.syntax.specs.declared.Fault.{Fault}
 use Rattle.syntax.specs.declared.Fault.TheVariants.{Length, Counts, Areas, UnknownKindAt, WrongFieldAt, WrongTypeAt, BoundAt}
 use Rattle.syntax.specs.declared.Sheet.{Sheet}
-use Rattle.syntax.specs.declared.TypedNode.{TypedNode}
+use Rattle.syntax.specs.declared.NodeType.{NodeType}
 use Rattle.node_rules.specs.Nodes.{Tables}
 use Rattle.compiler.specs.Compiles.{StopsAt, values, rows, Builds, stops, Compiles, faulted, passes}
 use Rattle.compiler.proofs.Passed.{passed}
@@ -33,7 +33,7 @@ stop-some : {sheet : Sheet} {tables : Tables} {limits : Limits} {n number : ℕ}
 stop-some (values over) = omega arith
 stop-some (rows few over) = omega arith
 
-build-some : {mode : Mode} {sheet : Sheet} {types : List TypedNode} {limits : Limits} {number spot : ℕ} {written : List ℕ}
+build-some : {mode : Mode} {sheet : Sheet} {types : List NodeType} {limits : Limits} {number spot : ℕ} {written : List ℕ}
     → Builds mode sheet types limits (compiler-refused number spot) written → 1 ≤ number
 build-some (stops tables n number h built p over) = stop-some over
 

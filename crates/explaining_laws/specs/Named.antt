@@ -8,12 +8,12 @@ use Rattle.syntax.specs.Types.{type_at}
 use Rattle.syntax.specs.declared.Node.TheVariants.{And}
 use Rattle.syntax.specs.declared.NodeType.TheVariants.{Policy}
 use Rattle.syntax.specs.declared.Sheet.{Sheet}
-use Rattle.syntax.specs.declared.TypedNode.{TypedNode}
+use Rattle.syntax.specs.declared.NodeType.{NodeType}
 use Rattle.explaining.specs.Denials.{satisfies_node}
 
 -- A node of the sheet, an enforced policy and no And, that the permitted actions satisfy, and every front of them, and that they violate with the
 -- denied one.
-pub record NamedNode (sheet : Sheet) (types : List TypedNode) (list : List ℕ) (place node : ℕ) : Type 0 where
+pub record NamedNode (sheet : Sheet) (types : List NodeType) (list : List ℕ) (place node : ℕ) : Type 0 where
   pub inside : node < sheet.count
   pub bound : Bound
   pub enforced : type_at types node ≡ Policy Enforced bound
