@@ -3,7 +3,7 @@
 use mathlib.Core.Path.{◌≡◌, refl, sym, ap, subst, ◌∙◌}
 use mathlib.Core.Bool.{Bool, true, false, cond}
 use mathlib.Core.List.{List}
-use Prim.Native.Nat.{ℕ, ◌+◌, ◌-◌, ◌≤◌, ◌<◌}
+use Prim.Native.Nat.{ℕ, ◌+◌, ◌-◌, ◌≤◌, ◌<◌, max}
 use native.Mathlib.Decide.{ℕ_discrete, dec_lt}
 use native.Mathlib.Omega.{arith}
 use lib.Dec.{leb}
@@ -12,7 +12,7 @@ use borrow.Author.Tests.{eq-eqb, ne_eqb, leb-true, le-leb}
 use Rattle.base.specs.Build.{Decides}
 use Rattle.trace.proofs.Laws.{not-both}
 use Rattle.table.specs.Table.{EntryFits}
-use Rattle.entry_range.specs.Largest.{one_past, Larger, Largest}
+use Rattle.entry_range.specs.Largest.{one_past, Largest}
 
 pub past-trip : (e : ℕ) → e ≡ 255 → one_past e ≡ 0
 past-trip e p = ap (λ (b : Bool). cond b 0 (e + 1)) (eq-eqb e 255 p)
@@ -28,18 +28,18 @@ fits-past rows e f =
     elim (ℕ_discrete e 255) [ yes p ↦ omega (arith, past-trip e p) | no q ↦ let g = f q in omega (arith, past_row e q) ]
 
 -- the largest of the first k
-pub largest-none : (entries : List ℕ) → Largest entries 0 0
-largest-none entries = record { above = λ j h. absurd (omega arith); least = λ m h. omega arith }
-
-pub largest-more : (entries : List ℕ) (k top past new : ℕ) → Largest entries k top → past ≡ one_past (get_or entries k 255) → Larger top past new
-    → Largest entries (k + 1) new
-largest-more entries k top past new l e g =
+pub largest-more : (entries : List ℕ) (k top past : ℕ) → Largest entries k top → past ≡ one_past (get_or entries k 255)
+    → Largest entries (k + 1) (max top past)
+largest-more entries k top past l e =
     record {
       above = λ j h. elim (ℕ_discrete j k) [
-        | yes p ↦ subst (λ (i : ℕ). one_past (get_or entries i 255) ≤ new) (sym p) (subst (λ (x : ℕ). x ≤ new) e g.right)
-        | no q ↦ let a = l.above j (omega arith) in let b = g.left in omega arith
+        | yes p ↦ subst (λ (i : ℕ). one_past (get_or entries i 255) ≤ max top past) (sym p) (subst (λ (x : ℕ). x ≤ max top past) e (omega arith))
+        | no q ↦ let a = l.above j (omega arith) in omega arith
       ];
-      least = λ m h. g.least m (l.least m (λ j i. h j (omega arith))) (subst (λ (x : ℕ). x ≤ m) (sym e) (h k (omega arith)));
+      least = λ m h.
+          let a = l.least m (λ j i. h j (omega arith)) in
+          let b = subst (λ (x : ℕ). x ≤ m) (sym e) (h k (omega arith)) in
+          omega arith;
     }
 
 -- the largest of the first k and of k from another place on
@@ -47,26 +47,6 @@ pub record Both (entries : List ℕ) (second k top : ℕ) : Type 0 where
   pub front : (j : ℕ) → j < k → one_past (get_or entries j 255) ≤ top
   pub back : (j : ℕ) → j < k → one_past (get_or entries (second + j) 255) ≤ top
   pub least : (m : ℕ) → ((j : ℕ) → j < length entries → one_past (get_or entries j 255) ≤ m) → top ≤ m
-
-pub both-none : (entries : List ℕ) (second : ℕ) → Both entries second 0 0
-both-none entries second = record { front = λ j h. absurd (omega arith); back = λ j h. absurd (omega arith); least = λ m h. omega arith }
-
-pub both-more : (entries : List ℕ) (second k top x y both new : ℕ) → second + k < length entries → Both entries second k top
-    → x ≡ one_past (get_or entries k 255) → y ≡ one_past (get_or entries (second + k) 255) → Larger x y both → Larger top both new
-    → Both entries second (k + 1) new
-both-more entries second k top x y both new inside b ex ey pair all =
-    record {
-      front = λ j h. elim (ℕ_discrete j k) [
-        | yes p ↦ rw p (subst (λ (v : ℕ). v ≤ new) ex (let l = pair.left in let r = all.right in omega arith))
-        | no q ↦ let a = b.front j (omega arith) in let l = all.left in omega arith
-      ];
-      back = λ j h. elim (ℕ_discrete j k) [
-        | yes p ↦ rw p (subst (λ (v : ℕ). v ≤ new) ey (let l = pair.right in let r = all.right in omega arith))
-        | no q ↦ let a = b.back j (omega arith) in let l = all.left in omega arith
-      ];
-      least = λ m h. all.least m (b.least m h)
-          (pair.least m (subst (λ (v : ℕ). v ≤ m) (sym ex) (h k (omega arith))) (subst (λ (v : ℕ). v ≤ m) (sym ey) (h (second + k) inside)));
-    }
 
 -- two halves that cover all entries
 pub both-all : (entries : List ℕ) (second half top : ℕ) → second ≤ half → second + half ≡ length entries → Both entries second half top

@@ -6,12 +6,6 @@ use Rattle.std.specs.Prelude.{cond, List, ℕ, ◌+◌, ◌≤◌, ◌<◌, eqb,
 abbrev pub one_past : ℕ → ℕ
 one_past e = cond (eqb e 255) 0 (e + 1)
 
--- The larger of two: at least both, and at most whatever is.
-pub record Larger (a b r : ℕ) : Type 0 where
-  pub left : a ≤ r
-  pub right : b ≤ r
-  pub least : (m : ℕ) → a ≤ m → b ≤ m → r ≤ m
-
 -- The largest of one past each of the first k entries.
 pub record Largest (entries : List ℕ) (k top : ℕ) : Type 0 where
   pub above : (j : ℕ) → j < k → one_past (get_or entries j 255) ≤ top

@@ -4,7 +4,7 @@
 ghost use Rattle.std.specs.Prelude.{◌≡◌, ℕ, ◌≤◌, ◌<◌, length, get_or};
 ghost use Rattle.base.specs.Build.{Decides};
 ghost use Rattle.table.specs.Table.{EntryFits};
-ghost use Rattle.entry_range.specs.Largest.{one_past, Larger, Largest};
+ghost use Rattle.entry_range.specs.Largest.{one_past, Largest};
 
 // One past an entry: 0 for a trip, so that the entry fits exactly when this is at most the count of rows.
 fn one_past(e: u8) -> u8
@@ -13,22 +13,13 @@ fn one_past(e: u8) -> u8
     if e == 255 { 0 } else { e + 1 }
 }
 
-// The larger of two.
-fn larger(a: u8, b: u8) -> u8
-    ensures { Larger a b result }
-{
-    if a < b { b } else { a }
-}
-
 // The largest of one past each entry, by one plain pass.
 fn top_of(entries: &[u8]) -> u8
     ensures { Largest entries.now (length entries.now) result }
 {
     let mut top = 0u8;
-    let mut k = 0;
-    while k < entries.len() {
-        top = larger(top, one_past(entries[k]));
-        k += 1;
+    for entry in entries {
+        top = top.max(one_past(*entry));
     }
     top
 }
@@ -42,11 +33,9 @@ fn top_of_halves(entries: &[u8]) -> u8
     let half = (entries.len() - 1) / 64 * 32 + 32;
     let second = entries.len() - half;
     let mut top = 0u8;
-    let mut k = 0;
-    while k < half {
-        let both = larger(one_past(entries[k]), one_past(entries[second + k]));
-        top = larger(top, both);
-        k += 1;
+    for k in 0..half {
+        let both = one_past(entries[k]).max(one_past(entries[second + k]));
+        top = top.max(both);
     }
     top
 }
@@ -56,15 +45,15 @@ fn top_of_any(entries: &[u8]) -> u8
     ensures { Largest entries.now (length entries.now) result }
 {
     if entries.len() < 64 {
-        return top_of(entries);
+        top_of(entries)
+    } else {
+        top_of_halves(entries)
     }
-    top_of_halves(entries)
 }
 
 // Whether every entry is below the count of rows, or 255.
-pub fn entries_fit(entries: &[u8], rows: u8) -> bool
+pub fn entries_fit(entries: &[u8], rows: usize) -> bool
     ensures { Decides ((k : ℕ) → k < length entries.now → EntryFits rows (get_or entries.now k 255)) result }
 {
-    let top = top_of_any(entries);
-    top <= rows
+    usize::from(top_of_any(entries)) <= rows
 }

@@ -40,7 +40,7 @@ pub fn check_front(bytes: &[u8]) -> Option<Header>
 {
     let header = header_of(bytes)?;
     let entries = bytes.get(8..8 + header.rows * header.actions)?;
-    if entries_fit(entries, header.rows as u8) {
+    if entries_fit(entries, header.rows) {
         Some(header)
     } else {
         None
