@@ -8,7 +8,7 @@ ghost use Rattle.board.specs.Replies.{made_reply, put_reply, take_reply};
 
 use crate::errors::{MakeError, PutError, TakeError};
 use board_checks::{Target, look_at};
-use places::{AREA_LENGTH, Board, Case, empty_board, with_case, write_place};
+use places::{AREA_LENGTH, Board, Case, write_place};
 use scan::admits;
 use trace::Mode;
 
@@ -16,7 +16,7 @@ use trace::Mode;
 pub fn new_board(board: &mut Board, area: &mut [u8]) -> Result<(), MakeError>
     ensures { Makes area.old (made_reply result) board.new area.new }
 {
-    *board = empty_board();
+    *board = Board::empty();
     if area.len() < AREA_LENGTH {
         return Err(MakeError::ShortArea);
     }
@@ -51,7 +51,7 @@ pub fn put_on(
         return Err(PutError::OtherActions);
     }
     write_place(area, place, table);
-    *board = with_case(*board, place, first_case(header.mode));
+    *board = board.with_case(place, first_case(header.mode));
     Ok(())
 }
 
@@ -63,6 +63,6 @@ pub fn take_off(board: &mut Board, area: &mut [u8], place: usize) -> Result<(), 
         return Err(TakeError::EmptyPlace);
     };
     write_place(area, place, &[]);
-    *board = with_case(*board, place, Case::Empty);
+    *board = board.with_case(place, Case::Empty);
     Ok(())
 }

@@ -9,7 +9,7 @@ ghost use Rattle.board_actions.specs.Replies.{act_reply};
 
 pub use board_checks::AskError;
 use board_checks::ask;
-use places::{Board, with_places};
+use places::Board;
 
 // What a call answers where its checks pass: permitted, with the set of the places that the action fulfils, as bits, or denied by a place.
 // specs/Replies.antt gives the number and values of docs/FORMATS.md, "Refusals", for each answer.
@@ -34,6 +34,6 @@ pub fn action(board: &mut Board, area: &[u8], action: usize) -> Result<Verdict, 
     if heard.denying != 0 {
         return Ok(Verdict::Denied(lowest(heard.denying)));
     }
-    *board = with_places(*board, heard.places);
+    *board = board.with_places(heard.places);
     Ok(Verdict::Permitted(heard.fulfilled))
 }

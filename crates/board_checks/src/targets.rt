@@ -1,7 +1,7 @@
 // What a call that names a place finds there: the checks of 14, 13 and 25, and whether the place is taken.
 ghost use Rattle.board_checks.specs.Targets.{Looks};
 
-use places::{AREA_LENGTH, Board, PLACES, case_at, taken};
+use places::{AREA_LENGTH, Board, PLACES};
 use scan::scan;
 
 // Why a call that names a place is refused, in the order 14, 13, 25.
@@ -30,7 +30,7 @@ pub fn look_at(board: Board, area: &[u8], place: usize) -> Result<Target, Target
         return Err(TargetError::NoPlace);
     }
     let scanned = scan(board, area, 0).ok_or(TargetError::Impossible)?;
-    if taken(case_at(board, place)) {
+    if board.case_at(place).taken() {
         return Ok(Target::Taken);
     }
     Ok(Target::Empty(scanned.actions))

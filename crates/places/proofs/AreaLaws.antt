@@ -10,16 +10,13 @@ use lib.ListN.{length, get_or, take, drop, replicate, length-append, length-take
 use lib.Seq.{length-take-le, take_at, drop_at, get_or-append-add, get_or-take, get_or-drop, ext_get_or}
 use Rattle.base.specs.Word.{word_at}
 use Rattle.table.specs.Table.{WellFormed, table_length, front_table}
-use Rattle.places.specs.Layout.{place_count, place_length, start_of, LongEnough, Within, place_bytes, stored_at, with_bytes}
+use Rattle.places.specs.Layout.{place_count, place_length, start_of, LongEnough, place_bytes, stored_at, with_bytes}
 
--- a place's bytes as the code cuts them out, all there where the area is long enough
+-- a place's bytes as the code cuts them out
 pub part-is : (place : ℕ) (area : List ℕ) (from : ℕ) → from ≡ start_of place → take (from + place_length - from) (drop from area) ≡ place_bytes area place
 part-is place area from e =
     let n : from + place_length - from ≡ place_length = omega arith in
     ap (λ (k : ℕ). take k (drop from area)) n ∙ ap (λ (k : ℕ). take place_length (drop k area)) e
-
-pub part-long : (area : List ℕ) (place : ℕ) → Within area place → length (place_bytes area place) ≡ place_length
-part-long area place h = length-take-le place_length (drop (start_of place) area) (omega (arith, length-drop (start_of place) area))
 
 -- what stands past the front of two lists
 get_d_past : (xs ys : List ℕ) (k d : ℕ) → length xs ≤ k → get_or (xs ++ ys) k d ≡ get_or ys (k - length xs) d

@@ -5,7 +5,6 @@ mod area;
 mod cases;
 
 pub use area::{place_bytes, write_place};
-pub use cases::{case_at, empty_board, from_places, taken, with_case, with_places};
 use table::LARGEST_TABLE;
 
 // How many places a board has, how long the part of a place in the area is, which is the length of the largest table, and so the area.
@@ -29,7 +28,7 @@ pub struct Place {
     pub case: Case,
 }
 
-// Only `from_places` and `with_places` build one, so that a field more is added there.
+// Only `from_places` and `with_places` build one, so that a field more is added there (cases.rt).
 #[derive(Clone, Copy)]
 pub struct Board {
     pub places: [Place; PLACES],

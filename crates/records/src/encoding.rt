@@ -5,7 +5,7 @@ ghost use Rattle.places.specs.Layout.{place_count};
 ghost use Rattle.records.specs.Record.{recorded_place, board_of, case_byte, row_byte, place_record, WordsTo, written, record_length};
 
 use base::put_word;
-use places::{Board, Case, PLACES, Place, from_places};
+use places::{Board, Case, PLACES, Place};
 
 // The bytes of a place, and those of a record.
 const PLACE: usize = 2;
@@ -36,7 +36,7 @@ pub fn read_board(bytes: &[u8]) -> Board
     for i in 0..PLACES {
         places[i] = place_of(bytes[PLACE * i], bytes[PLACE * i + 1]);
     }
-    from_places(places)
+    Board::from_places(places)
 }
 
 // The first byte of a place: its case.

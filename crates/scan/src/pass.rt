@@ -6,7 +6,7 @@ ghost use Rattle.scan.specs.Scans.{ScanGives};
 
 use crate::survey::{admits, see};
 use place_steps::step;
-use places::{Board, Case, PLACES, Place, taken};
+use places::{Board, Case, PLACES, Place, place_bytes};
 
 // What the pass gives of a board that can be: over how many actions its rules are (none: no rule is on), the places in their next cases, and the two
 // sets of places, as bits.
@@ -38,8 +38,8 @@ pub fn scan(board: Board, area: &[u8], action: usize) -> Option<Scanned>
     let old = board.places;
     for i in 0..PLACES {
         let case = old[i].case;
-        if taken(case) {
-            let read = see(case, area, i, action)?;
+        if case.taken() {
+            let read = see(case, place_bytes(area, i), action)?;
             if !admits(actions, read.actions) {
                 return None;
             }

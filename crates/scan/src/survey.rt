@@ -1,11 +1,11 @@
 // Check 25: whether a rule can be, over how many actions, and whether it can stand beside others.
 ghost use Rattle.std.specs.Prelude.{◌≡◌};
 ghost use Rattle.table.specs.Answer.{mode_number};
-ghost use Rattle.places.specs.Layout.{Within, stored_at};
+ghost use Rattle.table.specs.Table.{front_table};
 ghost use Rattle.view.specs.View.{held};
 ghost use Rattle.scan.specs.Survey.{ReadsRule, ReadsPlace, admitted};
 
-use places::{Case, place_bytes};
+use places::Case;
 use trace::Mode;
 
 // A rule that can be, read for an action: over how many actions it is, and the action's entry in its row, where it is in the list.
@@ -15,13 +15,11 @@ pub struct RuleRead {
     pub entry: u8,
 }
 
-// A rule of a type at a row, where it can be.
-fn rule_at(area: &[u8], place: usize, mode: Mode, row: u8, action: usize) -> Option<RuleRead>
-    requires { Within area.now place }
-    ensures { ReadsRule (stored_at area.now place) (mode_number mode) row action result }
+// The rule of a type at a row, by the bytes of its place, where it can be.
+fn rule_in(part: &[u8], mode: Mode, row: u8, action: usize) -> Option<RuleRead>
+    ensures { ReadsRule (front_table part.now) (mode_number mode) row action result }
 {
-    let bytes = place_bytes(area, place);
-    let header = well_formed::check_front(bytes)?;
+    let header = well_formed::check_front(part)?;
     let at_row = usize::from(row);
     if header.mode != mode || header.rows <= at_row {
         return None;
@@ -33,20 +31,20 @@ fn rule_at(area: &[u8], place: usize, mode: Mode, row: u8, action: usize) -> Opt
     let at = 8 + at_row * actions + action;
     Some(RuleRead {
         actions,
-        entry: bytes[at],
+        entry: part[at],
     })
 }
 
-// The rule of a taken place, where it can be. The bytes of an empty place are not read; a fulfilled rule is a watched one at any row.
-pub fn see(case: Case, area: &[u8], place: usize, action: usize) -> Option<RuleRead>
-    requires { Within area.now place }
-    ensures { ReadsPlace (held case (stored_at area.now place)) case action result }
+// The rule of a taken place, by its case and bytes, where it can be. The bytes of an empty place are not read; a fulfilled rule is a watched one at
+// any row.
+pub fn see(case: Case, part: &[u8], action: usize) -> Option<RuleRead>
+    ensures { ReadsPlace (held case (front_table part.now)) case action result }
 {
     match case {
         Case::Empty => None,
-        Case::Enforced(row) => rule_at(area, place, Mode::Enforced, row, action),
-        Case::Watched(row) => rule_at(area, place, Mode::Watched, row, action),
-        Case::Fulfilled => rule_at(area, place, Mode::Watched, 0, action),
+        Case::Enforced(row) => rule_in(part, Mode::Enforced, row, action),
+        Case::Watched(row) => rule_in(part, Mode::Watched, row, action),
+        Case::Fulfilled => rule_in(part, Mode::Watched, 0, action),
     }
 }
 

@@ -35,7 +35,7 @@ loop-i-preserved c =
           let joins : w.admits.result ≡ true = search rules in
           after-by l.i w.actions-is w.places-is (w.denying-is ∙ ap (λ (n : ℕ). l.denying + n) w.bit-denying.ensures)
           (w.fulfilled-is ∙ ap (λ (n : ℕ). l.fulfilled + n) w.bit-fulfilled.ensures) (
-            scans-taken _ _ l.i _ w.in_ok-read.read _ _ _ l.invariant.0 w.in_ok-read.ensures (sym w.admits.ensures ∙ joins) w.step-stepped.ensures,
+            scans-taken _ _ l.i _ w.in_ok-read.read _ _ _ l.invariant.0 (rw w.place_bytes.ensures at w.in_ok-read.ensures) (sym w.admits.ensures ∙ joins) w.step-stepped.ensures,
             bit_below bits.denies l.i l.denying l.invariant.1,
             bit_below bits.fulfilled l.i l.fulfilled l.invariant.2,
           )
