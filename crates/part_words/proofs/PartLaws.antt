@@ -1,34 +1,16 @@
 -- Laws of the parts of a node, of the stack that they are put on, and of the text of a stack.
 -- Assumes nothing.
 use mathlib.Core.Path.{◌≡◌, refl, ◌∙◌}
-use mathlib.Core.Bool.{true, false, ◌||◌}
 use mathlib.Core.List.{List, [], ◌∷◌, ◌++◌}
 use Prim.Native.Nat.{ℕ, zero, suc, ◌+◌, ◌-◌, ◌≤◌, ◌<◌}
 use native.Mathlib.Numerals.{add-one}
 use native.Mathlib.Omega.{arith}
-use lib.Dec.{eqb}
 use lib.ListN.{length, get_or, set, drop, drop_of_length-le}
 use lib.Seq.{drop-cons, get_or-take, get_or-set_same, drop-set-lt, lt-length-set, length-take-le}
-use borrow.Author.Tests.{eq-eqb, ne_eqb}
 use Rattle.sheet_layout.specs.Layout.{field}
-use Rattle.messages.specs.Message.{decimal}
 use Rattle.part_words.specs.Kinds.{part_count}
-use Rattle.part_words.specs.Parts.{argument_text, node_text, node_parts, Pushed, cut_text, stack_text}
+use Rattle.part_words.specs.Parts.{node_text, node_parts, Pushed, cut_text, stack_text}
 use Rattle.part_words.proofs.KindLaws.{few-parts}
-
--- the number of a node by its kind
-module _ (kind argument : ℕ) where
-  pub behind-letter : kind ≡ 3 → decimal argument ≡ argument_text kind argument
-  unfolding argument_text
-  behind-letter e = rw (eq-eqb kind 3 e)
-
-  pub own-word : (kind ≡ 3 → ⊥) → eqb kind 12 || eqb kind 22 ≡ true → 32 ∷ decimal argument ≡ argument_text kind argument
-  unfolding argument_text
-  own-word n e = rw (ne_eqb kind 3 n, e)
-
-  pub no_number : (kind ≡ 3 → ⊥) → eqb kind 12 || eqb kind 22 ≡ false → [] ≡ argument_text kind argument
-  unfolding argument_text
-  no_number n e = rw (ne_eqb kind 3 n, e)
 
 -- an element that is set is the first from its place on
 pub set_first : (l : List ℕ) (i v : ℕ) → i < length l → drop i (set l i v) ≡ v ∷ drop (suc i) l

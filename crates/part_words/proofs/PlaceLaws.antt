@@ -1,16 +1,16 @@
 -- Laws of where words stand: from first part to first part, and the words of one node more.
 -- Assumes nothing.
 use mathlib.Core.Path.{◌≡◌, refl, sym}
-use mathlib.Core.Bool.{Bool, true, false, ◌&&◌, ◌||◌}
+use mathlib.Core.Bool.{Bool, true, false, ◌&&◌}
 use mathlib.Core.List.{List}
 use Prim.Native.Nat.{ℕ, zero, suc, ◌+◌, ◌≤◌, ◌<◌}
 use native.Mathlib.Numerals.{add-one}
 use native.Mathlib.Omega.{arith}
-use lib.Dec.{eqb, leb, ltb}
+use lib.Dec.{leb, ltb}
 use borrow.Author.Tests.{eq-eqb, ne_eqb, lt-ltb, le-ltb, ltb-true}
 use Rattle.sheet_layout.specs.Layout.{field}
 use Rattle.part_words.specs.Kinds.{part_count}
-use Rattle.part_words.specs.Places.{first_part, first_within, first_under, stands_before, word_count, own_words, words_if_before, words_among}
+use Rattle.part_words.specs.Places.{first_part, first_within, first_under, stands_before, own_words, words_if_before, words_among}
 
 module _ (sheet : List ℕ) where
   pub no-first-part : (node : ℕ) → part_count (field sheet node 0) ≡ 0 → node ≡ first_part sheet node
@@ -72,13 +72,3 @@ module _ (sheet : List ℕ) where
   pub one_more : (other n : ℕ) → words_among sheet other (n + 1) ≡ words_among sheet other n + words_if_before sheet n other
   unfolding words_among
   one_more other n = rw (add-one n)
-
--- how many words a node is
-module _ (kind : ℕ) where
-  pub two-words : eqb kind 12 || eqb kind 22 ≡ true → 2 ≡ word_count kind
-  unfolding word_count
-  two-words e = rw e
-
-  pub one_word : eqb kind 12 || eqb kind 22 ≡ false → 1 ≡ word_count kind
-  unfolding word_count
-  one_word e = rw e

@@ -2,27 +2,27 @@
 ghost use Rattle.std.specs.Prelude.{[]};
 ghost use Rattle.messages.specs.Adding.{Adds};
 ghost use Rattle.messages.specs.Message.{filled};
-ghost use Rattle.catalogue.specs.Catalogue.{message_of};
+ghost use Rattle.catalogue.specs.Numbers.{text_of};
 ghost use Rattle.part_words.specs.Denier.{head_text, denier_rule, denier_place, shown_text, denier_text};
 
 use crate::kinds::add_kind;
 use crate::parts::add_part;
-use catalogue::{AT_WORD, DENIER, DENIER_END, LINE_END, OF_RULE, PART, add_message};
+use catalogue::{Message, add_message};
 
 // A message that has no word in it.
-fn say(number: usize, first: usize, second: usize, text: &mut [u8], at: usize) -> usize
-    ensures { Adds text.old at (filled (message_of number) first second []) text.new result }
+fn say(message: Message, first: usize, second: usize, text: &mut [u8], at: usize) -> usize
+    ensures { Adds text.old at (filled (text_of message) first second []) text.new result }
 {
-    add_message(number, first, second, b"", text, at)
+    add_message(message, first, second, b"", text, at)
 }
 
 // The node by its number, and the word of its kind.
 fn add_head(sheet: &[u8], node: usize, text: &mut [u8], at: usize) -> usize
     ensures { Adds text.old at (head_text sheet.now node) text.new result }
 {
-    let kind = say(DENIER, node, 0, text, at);
+    let kind = say(Message::Denier, node, 0, text, at);
     let next = add_kind(sheet, node, text, kind);
-    say(DENIER_END, 0, 0, text, next)
+    say(Message::DenierEnd, 0, 0, text, next)
 }
 
 // The rule by its number, where there are several; 0 where there is one.
@@ -32,7 +32,7 @@ fn add_rule(rule: usize, text: &mut [u8], at: usize) -> usize
     if rule == 0 {
         return at;
     }
-    say(OF_RULE, rule, 0, text, at)
+    say(Message::OfRule, rule, 0, text, at)
 }
 
 // Where the node's word stands, for a rule that was written as words; line 0 where it was not.
@@ -43,16 +43,16 @@ fn add_place(rule: usize, line: usize, word: usize, text: &mut [u8], at: usize) 
         return at;
     }
     let next = add_rule(rule, text, at);
-    say(AT_WORD, line, word, text, next)
+    say(Message::AtWord, line, word, text, next)
 }
 
 // The words of the part.
 fn add_shown(sheet: &[u8], node: usize, text: &mut [u8], at: usize) -> usize
     ensures { Adds text.old at (shown_text sheet.now node) text.new result }
 {
-    let words = say(PART, 0, 0, text, at);
+    let words = say(Message::Part, 0, 0, text, at);
     let next = add_part(sheet, node, text, words);
-    say(LINE_END, 0, 0, text, next)
+    say(Message::LineEnd, 0, 0, text, next)
 }
 
 // Adds the line of the node that denied.

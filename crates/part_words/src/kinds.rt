@@ -1,5 +1,5 @@
 // Kinds by their numbers: the word of each, and how many parts it has.
-ghost use Rattle.std.specs.Prelude.{◌≡◌, [], ◌≤◌, get_or};
+ghost use Rattle.std.specs.Prelude.{◌≡◌, ◌||◌, [], ◌≤◌, eqb, get_or};
 ghost use Rattle.sheet_layout.specs.Layout.{field};
 ghost use Rattle.fields.specs.Fields.{split_by};
 ghost use Rattle.messages.specs.Adding.{Adds};
@@ -8,6 +8,7 @@ ghost use Rattle.part_words.specs.Kinds.{kind_word, part_count};
 
 use crate::reading::{byte_at, node_field};
 use message_lists::fill_listed;
+use sheet_writer::Kind;
 
 // Adds the word of this number in a list of words, each with a `|` after it.
 fn add_listed(words: &[u8], number: usize, text: &mut [u8], at: usize) -> usize
@@ -33,6 +34,13 @@ pub fn add_kind(sheet: &[u8], node: usize, text: &mut [u8], at: usize) -> usize
     ensures { Adds text.old at (kind_word (field sheet.now node 0)) text.new result }
 {
     add_word(node_field(sheet, node, 0), text, at)
+}
+
+// Whether the number of a kind's node is a word of its own.
+pub fn has_number(kind: usize) -> bool
+    ensures { result ≡ eqb kind 12 || eqb kind 22 }
+{
+    kind == Kind::Count as usize || kind == Kind::Fulfilling as usize
 }
 
 // How many parts a kind has.

@@ -3,18 +3,20 @@ ghost use Rattle.std.specs.Prelude.{◌≡◌, ◌≤◌, length};
 ghost use Rattle.messages.specs.Adding.{Adds};
 ghost use Rattle.part_words.specs.Parts.{argument_text, node_text, node_parts, Pushed, cut_text, part_text};
 
-use crate::kinds::{add_kind, part_count};
+use crate::kinds::{add_kind, has_number, part_count};
 use crate::reading::node_field;
 use messages::{add, add_number, put};
+use sheet_writer::Kind;
 
 // Adds the number of a node that has one: right behind the letter of a proposition, else as a word of its own.
+#[tactic(auto, unfolding(crate::specs::Parts::argument_text))]
 fn add_argument(kind: usize, argument: usize, text: &mut [u8], at: usize) -> usize
     ensures { Adds text.old at (argument_text kind argument) text.new result }
 {
-    if kind == 3 {
+    if kind == Kind::Proposition as usize {
         return add_number(argument, text, at);
     }
-    if (kind == 12) | (kind == 22) {
+    if has_number(kind) {
         let next = put(b' ', text, at);
         return add_number(argument, text, next);
     }
@@ -38,11 +40,10 @@ fn push_parts(sheet: &[u8], node: usize, stack: &mut [usize; 130], from: usize) 
     ensures { Pushed (node_parts sheet.now node) stack.old from stack.new result }
 {
     let mut top = from;
-    let mut part = part_count(node_field(sheet, node, 0));
-    while 0 < part {
+    let count = part_count(node_field(sheet, node, 0));
+    for part in (0..count).rev() {
         top -= 1;
-        stack[top] = node_field(sheet, node, 1 + part);
-        part -= 1;
+        stack[top] = node_field(sheet, node, 2 + part);
     }
     top
 }

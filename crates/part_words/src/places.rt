@@ -2,7 +2,7 @@
 ghost use Rattle.std.specs.Prelude.{◌≡◌, ◌≤◌};
 ghost use Rattle.part_words.specs.Places.{first_part, first_under, stands_before, own_words, words_if_before, words_before};
 
-use crate::kinds::part_count;
+use crate::kinds::{has_number, part_count};
 use crate::reading::{node_count, node_field};
 
 // A node's first part; the node itself where it has none.
@@ -29,34 +29,38 @@ fn first_under(sheet: &[u8], node: usize) -> usize
 }
 
 // Whether the word of a node stands before that of another.
+#[tactic(auto, unfolding(crate::specs::Places::stands_before))]
 fn stands_before(sheet: &[u8], node: usize, other: usize) -> bool
     ensures { result ≡ stands_before sheet.now node other }
 {
     if node < other {
         return node < first_under(sheet, other);
     }
-    (other < node) & (first_under(sheet, node) <= other)
+    other < node && first_under(sheet, node) <= other
 }
 
 // How many words a node itself is.
+#[tactic(auto, unfolding(crate::specs::Places::word_count))]
 fn own_words(sheet: &[u8], node: usize) -> usize
     ensures { (result ≡ own_words sheet.now node) × (result ≤ 2) }
 {
-    let kind = node_field(sheet, node, 0);
-    if (kind == 12) | (kind == 22) {
-        return 2;
+    if has_number(node_field(sheet, node, 0)) {
+        2
+    } else {
+        1
     }
-    1
 }
 
 // How many words of a node stand before that of another: its own, or none.
+#[tactic(auto, unfolding(crate::specs::Places::words_if_before))]
 fn words_if_before(sheet: &[u8], node: usize, other: usize) -> usize
     ensures { (result ≡ words_if_before sheet.now node other) × (result ≤ 2) }
 {
     if stands_before(sheet, node, other) {
-        return own_words(sheet, node);
+        own_words(sheet, node)
+    } else {
+        0
     }
-    0
 }
 
 // How many words of the text stand before that of a node. The first is no node's: watch or enforce.
@@ -65,10 +69,8 @@ pub fn words_before(sheet: &[u8], node: usize) -> usize
 {
     let count = node_count(sheet);
     let mut words = 1;
-    let mut k = 0;
-    while k < count {
+    for k in 0..count {
         words += words_if_before(sheet, k, node);
-        k += 1;
     }
     words
 }

@@ -4,12 +4,13 @@ ghost use Rattle.base.specs.Sets.{bit};
 ghost use Rattle.part_words.specs.Propositions.{is_named, named_below, some_has, is_unheld};
 
 use crate::reading::node_field;
+use sheet_writer::Kind;
 
 // Whether a node is this proposition.
 fn is_proposition(sheet: &[u8], node: usize, p: usize) -> bool
     ensures { result ≡ is_named sheet.now node p }
 {
-    (node_field(sheet, node, 0) == 3) & (node_field(sheet, node, 1) == p)
+    node_field(sheet, node, 0) == Kind::Proposition as usize && node_field(sheet, node, 1) == p
 }
 
 // Whether one of the 64 nodes that a sheet can have is this proposition.
@@ -17,10 +18,8 @@ fn is_named(sheet: &[u8], p: usize) -> bool
     ensures { result ≡ named_below sheet.now p 64 }
 {
     let mut found = false;
-    let mut node = 0;
-    while node < 64 {
-        found = found | is_proposition(sheet, node, p);
-        node += 1;
+    for node in 0..64 {
+        found |= is_proposition(sheet, node, p);
     }
     found
 }
@@ -38,14 +37,7 @@ fn some_has(actions: &[u16], p: usize) -> bool
     requires { p < 16 }
     ensures { result ≡ some_has actions.now p }
 {
-    let mut k = 0;
-    while k < actions.len() {
-        if is_in(actions[k], p) {
-            return true;
-        }
-        k += 1;
-    }
-    false
+    actions.iter().any(|set| is_in(*set, p))
 }
 
 // Whether the rule names a proposition that no action has.
@@ -53,5 +45,5 @@ pub fn unheld(sheet: &[u8], actions: &[u16], p: usize) -> bool
     requires { p < 16 }
     ensures { result ≡ is_unheld sheet.now actions.now p }
 {
-    is_named(sheet, p) & !some_has(actions, p)
+    is_named(sheet, p) && !some_has(actions, p)
 }

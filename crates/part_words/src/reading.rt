@@ -2,16 +2,15 @@
 ghost use Rattle.std.specs.Prelude.{◌≡◌, ◌<◌, get_or};
 ghost use Rattle.sheet_layout.specs.Layout.{field, node_count};
 
-use base::byte;
-
 // Byte i as a number, 0 past the end.
 pub fn byte_at(bytes: &[u8], i: usize) -> usize
     ensures { (result ≡ get_or bytes.now i 0) × (result < 256) }
 {
     if i < bytes.len() {
-        return byte(bytes[i]);
+        usize::from(bytes[i])
+    } else {
+        0
     }
-    0
 }
 
 // Field k of a node: 0 its kind, 1 its argument, 2 to 4 its parts. A node so high that its fields are past the end has zeroes.

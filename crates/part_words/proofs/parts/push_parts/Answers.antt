@@ -1,6 +1,6 @@
 -- The goals of `part_words::parts::push_parts` that the check leaves.
 use mathlib.Core.Path.{◌≡◌, refl, ap, ◌∙◌}
-use Prim.Native.Nat.{ℕ, ◌-◌, ◌≤◌, ◌<◌}
+use Prim.Native.Nat.{◌+◌, ℕ, ◌-◌, ◌≤◌, ◌<◌}
 use native.Mathlib.Omega.{arith}
 use lib.ListN.{drop, set, length-set}
 use Rattle.sheet_layout.specs.Layout.{field}
@@ -13,19 +13,20 @@ use Rattle.part_words.proofs.parts.push_parts.Goals.{In-loop-part}
 pub loop-part-init : goal.loop-part-init
 loop-part-init c =
     let a = c.args in
-    let counted : c.part_count-part.result ≡ part_count (field a.sheet.now a.node 0) = c.part_count-part.ensures.0 ∙ ap part_count c.node_field.ensures in
-    (refl, omega arith, omega arith, none-pushed a.sheet.now a.node (drop a.from a.stack.now) c.part_count-part.result counted)
+    let counted : c.part_count-count.result ≡ part_count (field a.sheet.now a.node 0) = c.part_count-count.ensures.0 ∙ ap part_count c.node_field.ensures in
+    (refl, omega arith, omega arith, none-pushed a.sheet.now a.node (drop a.from a.stack.now) c.part_count-count.result counted)
 
 pub loop-part-preserved : goal.loop-part-preserved
 loop-part-preserved c =
     let a = c.args in
     let l = c.loop-part in
     let i = l.invariant in
-    let few = few-parts (field a.sheet.now a.node 0) in (
+    let few = few-parts (field a.sheet.now a.node 0) in
+    let field_number : 2 + (l.part - 1) ≡ 1 + l.part = omega arith in (
       length-set l.stack (l.top - 1) c.node_field-in-loop-part.result ∙ i.0,
       omega (arith, i.1),
       omega (arith, i.1, i.2),
-      ap (λ (v : ℕ). drop (l.top - 1) (set l.stack (l.top - 1) v)) c.node_field-in-loop-part.ensures
+      ap (λ (v : ℕ). drop (l.top - 1) (set l.stack (l.top - 1) v)) (c.node_field-in-loop-part.ensures ∙ ap (field a.sheet.now a.node) field_number)
           ∙ push-one a.sheet.now a.node a.stack.now l.stack a.from l.top l.part (omega (arith, i.1, i.2)) (omega (arith, i.0, i.1, i.2, c.requires.0)) (omega arith) i.1 i.3,
     )
 

@@ -12,6 +12,3 @@ abbrev pub invariant-loop-part : goal.invariant-loop-part
 invariant-loop-part l =
     (length l.stack ≡ length l.initial.stack) × (l.part ≤ part_count (field l.sheet l.node 0)) × (l.top + part_count (field l.sheet l.node 0) ≡ l.from + l.part)
     × (drop l.top l.stack ≡ drop l.part (node_parts l.sheet l.node) ++ drop l.from l.initial.stack)
-
-abbrev pub decreases-loop-part : goal.decreases-loop-part
-decreases-loop-part l = l.part
