@@ -9,6 +9,7 @@ use lib.ListN.{length, get_or, take, drop, replicate, get_or-replicate, length-r
 use lib.Seq.{get_or-append-add}
 use Rattle.trace.specs.declared.Mode.TheVariants.{Enforced}
 use Rattle.table.specs.Table.{actions_of, rows_of, table_length, front_table, entries_of}
+use Rattle.table.specs.declared.Header.{Header}
 use Rattle.table.specs.Answer.{FieldsOf}
 use Rattle.table.proofs.Formed.{front-actions, front-rows, front-entries}
 use Rattle.rules.specs.Rules.{slot_at}
@@ -41,12 +42,15 @@ padded l n mark k =
 
 -- the rows of the table at the front, laid into a slot
 module _ (bytes : List ℕ) (f : Fit (front_table bytes)) where
-  fields : FieldsOf (front_table bytes) Enforced (actions_of bytes) (rows_of bytes)
+  abbrev header : Header
+  header = record { mode = Enforced; actions = actions_of bytes; rows = rows_of bytes }
+
+  fields : FieldsOf (front_table bytes) header
   fields = record { fits = f.accepted.formed.header; type = f.enforced; acting = front-actions bytes; rowed = front-rows bytes }
 
   pub slot-laid : (end n : ℕ) (slot : List ℕ) → end ≡ table_length bytes → slot ≡ take (end - 8) (drop 8 bytes) ++ replicate n 255 → SlotHolds slot (front_table bytes)
   slot-laid end n slot e s =
-      let g : take (end - 8) (drop 8 bytes) ≡ entries_of (front_table bytes) = front-entries bytes Enforced (actions_of bytes) (rows_of bytes) end fields e in
+      let g : take (end - 8) (drop 8 bytes) ≡ entries_of (front_table bytes) = front-entries bytes header end fields e in
       record { entry = λ k. ap (λ (l : List ℕ). get_or l k 255) s ∙ padded (take (end - 8) (drop 8 bytes)) n 255 k ∙ ap (λ (l : List ℕ). get_or l k 255) g }
 
 -- The tables before i have so many actions, and stand in their slots.

@@ -2,35 +2,29 @@
 -- Assumes nothing.
 use mathlib.Core.Path.{◌≡◌, refl, sym, ◌∙◌, ap, subst}
 use mathlib.Core.List.{List, []}
+use Rattle.std.proofs.Common.{Err}
 use Prim.Native.Nat.{ℕ, suc, ◌+◌, ◌*◌, ◌≤◌, ◌<◌}
 use native.Mathlib.Nat.{mul-le-mul}
 use native.Mathlib.Decide.{ℕ_discrete}
 use native.Mathlib.Omega.{arith}
 use lib.ListN.{length, drop, length-take, length-drop, drop_of_length-le}
 use lib.Seq.{drop-drop}
-use Rattle.trace.specs.declared.Mode.{Mode}
-use Rattle.trace.specs.declared.Mode.TheVariants.{Enforced, Watched}
 use Rattle.limits.specs.declared.Limits.{Limits}
 use Rattle.table.specs.Table.{type_of, actions_of, rows_of, table_length, front_table, Accepted}
-use Rattle.table.specs.Answer.{Answer, accepted, refused, mode_number, Loads, accepts}
+use Rattle.table.specs.Answer.{Answer, accepted, refused, Loads, accepts}
 use Rattle.table.proofs.Formed.{front-actions, front-rows}
 use Rattle.table.proofs.Loading.{refused-10-exactly, refused-11-exactly}
 use Rattle.joining.specs.Tables.{rest_at, table_at, Fit, malformed, not-canonical, watched, FitBefore, CountFits}
 use Rattle.joining.specs.Joins.{Joins, unfit}
 use Rattle.joining.specs.Calling.{answer_of}
 use Rattle.joining.specs.Reading.{RefusedBy, FitFront, AllFit, FirstRefused}
-use Rattle.joining.specs.declared.Joined.{Joined}
-use Rattle.joining.specs.declared.Joined.TheVariants.{Malformed, NotCanonical, WatchedTable}
+use Rattle.joining.specs.declared.JoinError.{JoinError}
+use Rattle.joining.specs.declared.JoinError.TheVariants.{Malformed, NotCanonical, WatchedTable}
 
 -- an accepted table with what its header says
 loaded-as : {t : List ℕ} {type actions rows : ℕ} → Loads t (accepted type actions rows)
     → Accepted t × (type_of t ≡ type) × (actions_of t ≡ actions) × (rows_of t ≡ rows)
 loaded-as (accepts a) = (a, refl, refl, refl)
-
--- a type that is not watched is enforced
-pub enforced-else : (mode : Mode) → (mode_number mode ≡ 2 → ⊥) → mode_number mode ≡ 1
-enforced-else Enforced n = refl
-enforced-else Watched n = absurd (n refl)
 
 -- the length of a fit table at the front
 pub front-size : (bytes : List ℕ) → Fit (front_table bytes) → (table_length bytes ≤ length bytes) × (rows_of bytes * actions_of bytes ≤ 1024)
@@ -94,12 +88,12 @@ module _ {i : ℕ} {input : List ℕ} {at : ℕ} (w : AllFit i input at) where
           ∙ ap (λ (l : List ℕ). drop (table_length l) l) w.behind ∙ ap (rest_at input) (let e : suc i ≡ i + 1 = omega arith in e)
 
   -- or the first that is not fit
-  pub refused-here : (count : ℕ) → i < count → (answer : Joined) → RefusedBy (front_table (drop at input)) answer → FirstRefused count input answer
-  refused-here count h answer r = record { at = i; below = h; earlier = w.fit; refuses = subst (λ (t : List ℕ). RefusedBy t answer) next-table r }
+  pub refused-here : (count : ℕ) → i < count → (error : JoinError) → RefusedBy (front_table (drop at input)) error → FirstRefused count input error
+  refused-here count h error r = record { at = i; below = h; earlier = w.fit; refuses = subst (λ (t : List ℕ). RefusedBy t error) next-table r }
 
 -- what is answered then
-pub refused-first : {count : ℕ} {input : List ℕ} {limits : Limits} {answer : Joined} → CountFits count → FirstRefused count input answer
-    → Joins count input limits (answer_of answer) []
+pub refused-first : {count : ℕ} {input : List ℕ} {limits : Limits} {error : JoinError} → CountFits count → FirstRefused count input error
+    → Joins count input limits (answer_of (Err error)) []
 refused-first {count} {input} {limits} counts r =
     subst (λ (a : Answer). Joins count input limits a []) (sym r.refuses.says)
     (unfit counts r.at r.refuses.number r.below r.earlier r.refuses.unfit)

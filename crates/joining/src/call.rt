@@ -10,14 +10,14 @@ ghost use Rattle.joining.specs.Reading.{Acting};
 ghost use Rattle.joining.specs.Joins.{Joins};
 ghost use Rattle.joining.specs.Calling.{answer_of, JoinsInto};
 
-use crate::Joined;
-use crate::reading::{Agreement, Checked, check_tables, lay_out};
+use crate::JoinError;
+use crate::reading::{check_tables, lay_out};
 use limits::{LARGEST, Limits, NUMBERS_LENGTH, WORK_LENGTH};
-use machine_rows::{MachineBuilt, Plan};
+use machine_rows::Plan;
 use machine_tables::make_table;
 use making::long_enough;
-use steppers::Stepper;
-use table::LARGEST_TABLE;
+use steppers::Tables;
+use table::{Header, LARGEST_TABLE};
 use trace::Mode;
 
 // Makes the table of the tables in the first slots, read together. Its rows are built in the slot behind those of eight tables.
@@ -28,23 +28,18 @@ fn build_joined(
     work: &mut [u8],
     values: &mut [u64],
     limits: Limits,
-) -> Joined
+) -> Result<Header, JoinError>
     requires tables_readable { TablesReadable work.old count × Acting actions }
     requires lent { Lent limits out.old work.old values.old }
     ensures { WritesTo (MachineMakes 1 actions (tuple_step (parts_from actions work.old 0 count)) 0 limits) (answer_of result) out.old out.new }
 {
-    let tables = count as u8;
     let plan = Plan {
-        stepper: Stepper::OfTables(tables),
         slot: 8,
         actions,
         limits,
     };
-    match make_table(Mode::Enforced, plan, out, work, values) {
-        MachineBuilt::TooManyValues => Joined::TooManyValues,
-        MachineBuilt::TooManyRows => Joined::TooManyRows,
-        MachineBuilt::Rows(rows) => Joined::Table { actions, rows },
-    }
+    let joined = Tables { count: count as u8 };
+    Ok(make_table(Mode::Enforced, joined, plan, out, work, values)?)
 }
 
 // Joins tables with any limits.
@@ -55,30 +50,19 @@ fn join_with(
     work: &mut [u8],
     values: &mut [u64],
     limits: Limits,
-) -> Joined
+) -> Result<Header, JoinError>
     requires { Lent limits out.old work.old values.old }
     ensures { WritesTo (Joins count tables.now limits) (answer_of result) out.old out.new }
 {
-    if count < 2 {
-        return Joined::WrongCount;
+    if count < 2 || 8 < count {
+        return Err(JoinError::WrongCount);
     }
-    if 8 < count {
-        return Joined::WrongCount;
+    let end = check_tables(count, tables)?;
+    if end != tables.len() {
+        return Err(JoinError::Malformed);
     }
-    match check_tables(count, tables) {
-        Checked::Unfit(answer) => answer,
-        Checked::Fit(end) => {
-            if end != tables.len() {
-                return Joined::Malformed;
-            }
-            match lay_out(count, tables, work) {
-                Agreement::Mixed => Joined::OtherActions,
-                Agreement::One(actions) => {
-                    build_joined(count, actions, out, work, values, limits)
-                }
-            }
-        }
-    }
+    let actions = lay_out(count, tables, work).ok_or(JoinError::OtherActions)?;
+    build_joined(count, actions, out, work, values, limits)
 }
 
 // Joins tables in work areas of their exact lengths, and zeroes them.
@@ -88,7 +72,7 @@ fn join_in(
     out: &mut [u8],
     work: &mut [u8],
     values: &mut [u64],
-) -> Joined
+) -> Result<Header, JoinError>
     requires largest_table_in_bounds { largest_table ≤ length out.old }
     requires work_len { length work.old ≡ work_length }
     requires values_len { length values.old ≡ numbers_length }
@@ -97,8 +81,8 @@ fn join_in(
     ensures zeroed_2 { Zeroed values.old values.new }
 {
     let joined = join_with(count, tables, out, work, values, LARGEST);
-    base::fill(work, 0);
-    base::clear_numbers(values);
+    work.fill(0);
+    values.fill(0);
     joined
 }
 
@@ -110,17 +94,17 @@ pub fn join(
     out: &mut [u8],
     work: &mut [u8],
     values: &mut [u64],
-) -> Joined
+) -> Result<Header, JoinError>
     ensures { JoinsInto count tables.now out.old work.old values.old (answer_of result) out.new work.new values.new }
 {
-    if long_enough(LARGEST_TABLE, out.len(), work.len(), values.len()) {
-        return join_in(
-            count,
-            tables,
-            out,
-            &mut work[..WORK_LENGTH],
-            &mut values[..NUMBERS_LENGTH],
-        );
+    if !long_enough(LARGEST_TABLE, out.len(), work.len(), values.len()) {
+        return Err(JoinError::ShortArea);
     }
-    Joined::ShortArea
+    join_in(
+        count,
+        tables,
+        out,
+        &mut work[..WORK_LENGTH],
+        &mut values[..NUMBERS_LENGTH],
+    )
 }

@@ -4,12 +4,15 @@
 mod call;
 mod reading;
 
-pub use call::join;
+ghost use Rattle.std.specs.Prelude.{◌≡◌};
+ghost use Rattle.joining.specs.Calling.{over_of};
 
-// What joining answers: an enforced table, or a refusal.
-#[derive(Clone, Copy)]
-pub enum Joined {
-    Table { actions: usize, rows: usize },
+pub use call::join;
+use machine_rows::OverLimit;
+
+// Why tables are not joined.
+#[derive(Clone, Copy, PartialEq, Eq)]
+pub enum JoinError {
     ShortArea,
     WrongCount,
     Malformed,
@@ -18,4 +21,15 @@ pub enum Joined {
     OtherActions,
     TooManyValues,
     TooManyRows,
+}
+
+impl From<OverLimit> for JoinError {
+    ghost from_gives = { λ limit error. error ≡ over_of limit };
+
+    fn from(limit: OverLimit) -> JoinError {
+        match limit {
+            OverLimit::Values => JoinError::TooManyValues,
+            OverLimit::Rows => JoinError::TooManyRows,
+        }
+    }
 }

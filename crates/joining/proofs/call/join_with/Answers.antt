@@ -3,22 +3,23 @@ use mathlib.Core.Path.{◌≡◌, refl}
 use mathlib.Core.List.{List, []}
 use Prim.Native.Nat.{ℕ, ◌≤◌}
 use native.Mathlib.Omega.{arith}
+use borrow.Author.Rules.{rules}
 use lib.ListN.{length}
+use Rattle.std.proofs.Common.{Option, Some, None, Result, Err, ok_or}
 use Rattle.limits.specs.Lengths.{work_length}
 use Rattle.limits.specs.declared.Limits.{Limits}
 use Rattle.table.specs.Answer.{Answer}
 use Rattle.making.specs.Making.{WritesTo}
 use Rattle.joining.specs.Tables.{rest_at, CountFits}
 use Rattle.joining.specs.Joins.{Joins, miscounted, left_over, mixed, meets}
-use Rattle.joining.specs.Reading.{AllChecked, AllFit, LaidOut}
-use Rattle.joining.specs.declared.reading.Checked.{Checked}
-use Rattle.joining.specs.declared.reading.Checked.TheVariants.{Fit, Unfit}
-use Rattle.joining.specs.declared.reading.Agreement.{Agreement}
-use Rattle.joining.specs.declared.reading.Agreement.TheVariants.{One, Mixed}
+use Rattle.joining.specs.Calling.{answer_of}
+use Rattle.joining.specs.Reading.{AllFit, LaidOut}
+use Rattle.joining.specs.declared.JoinError.{JoinError}
+use Rattle.joining.specs.declared.JoinError.TheVariants.{OtherActions}
 use Rattle.joining.proofs.Walking.{refused-first, nothing_left, left_behind}
 use Rattle.joining.proofs.Meeting.{tables-readable, acting, machine_meets}
 use Rattle.joining.proofs.call.join_with.Goals as goal
-use Rattle.joining.proofs.call.join_with.Goals.{After-check_tables, After-lay_out, Else-end-tables, In-Fit, In-One, Start}
+use Rattle.joining.proofs.call.join_with.Goals.{In_ok-end, After-lay_out, In_ok-actions, then-count-lt2-via-then-count-lt2, then-count-lt2-via-else-count-lt2+then-count-gt8}
 
 -- a refusal writes nothing
 refuses : {count : ℕ} {input : List ℕ} {limits : Limits} {answer : Answer} (out : List ℕ) → Joins count input limits answer []
@@ -26,123 +27,80 @@ refuses : {count : ℕ} {input : List ℕ} {limits : Limits} {answer : Answer} (
 refuses out j = record { written = []; gives = j; front = refl }
 
 pub returns-then-count-lt2 : goal.returns-then-count-lt2
-returns-then-count-lt2 c = refuses _ (miscounted (λ f. let h = f.low in omega (arith, c.if-count-lt2.true)))
+returns-then-count-lt2 c =
+    refuses _
+    (miscounted (λ f.
+    let low = f.low in
+    let high = f.high in
+    elim c.then-count-lt2.branch [
+      | then-count-lt2-via-then-count-lt2 w ↦ omega (arith, w.if-count-lt2.true)
+      | then-count-lt2-via-else-count-lt2+then-count-gt8 w ↦ omega (arith, w.if-count-gt8.true)
+    ]))
 
-pub returns-then-count-gt8 : goal.returns-then-count-gt8
-returns-then-count-gt8 c = refuses _ (miscounted (λ f. let h = f.high in omega (arith, c.if-count-gt8.true)))
+pub returns-in_err-end : goal.returns-in_err-end
+returns-in_err-end c =
+    let is : c.from_residual.result ≡ Err c.in_err-end.field-0.0 = search rules in
+    let counted : CountFits c.args.count = record { low = omega (arith, c.if-count-lt2.false); high = omega (arith, c.if-count-gt8.false) } in
+    rw is (refuses _ (refused-first counted c.in_err-end.ensures))
 
--- the tables were checked
-module _ (c : After-check_tables) where
-  abbrev start : Start
-  start = (goal.at.After-check_tables c).Start
-
-  abbrev input : List ℕ
-  input = start.args.tables.now
-
-  counted : CountFits start.args.count
+-- all tables are fit
+module _ (c : In_ok-end) where
+  counted : CountFits c.args.count
   counted = record { low = omega (arith, c.if-count-lt2.false); high = omega (arith, c.if-count-gt8.false) }
 
-  checked : (is : Checked) → c.check_tables.result ≡ is → AllChecked start.args.count input is
-  checked is e = rw e at c.check_tables.ensures
-
-pub returns-in-Unfit : goal.returns-in-Unfit
-returns-in-Unfit c =
-    let k = (goal.at.returns-in-Unfit c).After-check_tables in
-    refuses _ (refused-first (counted k) (checked k (Unfit _) c.in-Unfit.is))
-
--- all are fit
-module _ (c : In-Fit) where
-  abbrev made : After-check_tables
-  made = (goal.at.In-Fit c).After-check_tables
-
-  all : AllFit (start made).args.count (input made) c.in-Fit.end
-  all = checked made (Fit _) c.in-Fit.is
+  all : AllFit c.args.count c.args.tables.now c.in_ok-end.end
+  all = c.in_ok-end.ensures
 
 pub returns-then-end-tables : goal.returns-then-end-tables
 returns-then-end-tables c =
-    let t = (goal.at.returns-then-end-tables c).In-Fit in
-    refuses _ (left_over (counted (made t)) (all t).fit (left_behind (all t) (λ e. let q = c.if-end-tables.true in omega arith)))
+    let t = (goal.at.returns-then-end-tables c).In_ok-end in
+    refuses _ (left_over (counted t) (all t).fit (left_behind (all t) (λ e. let q = c.if-end-tables.true in omega arith)))
 
 -- nothing is left over
-module _ (c : Else-end-tables) where
-  abbrev fit-tables : In-Fit
-  fit-tables = (goal.at.Else-end-tables c).In-Fit
-
-  whole : rest_at (input (made fit-tables)) (start (made fit-tables)).args.count ≡ []
-  whole = nothing_left (all fit-tables) (let e = c.if-end-tables.false in omega arith)
-
-pub lay_out-requires : goal.lay_out-requires
-lay_out-requires c =
-    let t = (goal.at.lay_out-requires c).In-Fit in
-    let k = counted (made t) in
-    ((all t).fit, omega (arith, k.low), k.high, (start (made t)).requires.to-work.bytes)
-
--- the rows are laid out
 module _ (c : After-lay_out) where
-  abbrev found : Else-end-tables
-  found = (goal.at.After-lay_out c).Else-end-tables
+  abbrev tables : In_ok-end
+  tables = (goal.at.After-lay_out c).In_ok-end
 
-  abbrev checks : After-check_tables
-  checks = made (fit-tables found)
+  whole : rest_at c.args.tables.now c.args.count ≡ []
+  whole = nothing_left (all tables) (let e = c.if-end-tables.false in omega arith)
 
-  abbrev work : List ℕ
-  work = c.lay_out.new.work
+  differs : (found : Option ℕ) → LaidOut c.args.count c.args.tables.now found c.lay_out.new.work → (error : JoinError)
+      → ◌≡◌ {A = Result ℕ JoinError} (Err error) (ok_or found OtherActions) → Joins c.args.count c.args.tables.now c.args.limits (answer_of (Err error)) []
+  differs None l error e = let is : error ≡ OtherActions = cc in rw is (mixed (counted tables) (all tables).fit whole l)
+  differs (Some actions) l error e = absurd (let z : ◌≡◌ {A = ℕ} 0 1 = cc in omega arith)
 
-  laid : (is : Agreement) → c.lay_out.result ≡ is → LaidOut (start checks).args.count (input checks) is work
-  laid is e = rw e at c.lay_out.ensures
-
-pub returns-in-Mixed : goal.returns-in-Mixed
-returns-in-Mixed c =
-    let l = (goal.at.returns-in-Mixed c).After-lay_out in
-    refuses _ (mixed (counted (checks l)) (all (fit-tables (found l))).fit (whole (found l)) (laid l Mixed c.in-Mixed.is))
+pub returns-in_err-actions : goal.returns-in_err-actions
+returns-in_err-actions c =
+    let is : c.from_residual-in_err-actions.result ≡ Err c.in_err-actions.field-0.0 = search rules in
+    let l = (goal.at.returns-in_err-actions c).After-lay_out in
+    rw is (refuses _ (differs l c.lay_out.result c.lay_out.ensures _ c.in_err-actions.ensures.value))
 
 -- over one list of actions
-module _ (c : In-One) where
-  abbrev out : After-lay_out
-  out = (goal.at.In-One c).After-lay_out
+module _ (c : In_ok-actions) where
+  abbrev laid : After-lay_out
+  laid = (goal.at.In_ok-actions c).After-lay_out
 
-  abbrev actions : ℕ
-  actions = c.in-One.actions
+  agreed : LaidOut c.args.count c.args.tables.now (Some c.in_ok-actions.actions) c.lay_out.new.work
+  agreed = rw c.in_ok-actions.ensures.ok_part at c.lay_out.ensures
 
-  agreed : LaidOut (start (checks out)).args.count (input (checks out)) (One actions) (work out)
-  agreed = laid out (One actions) c.in-One.is
+  room : work_length ≤ length c.lay_out.new.work
+  room = omega (arith, c.requires.to-work.bytes, c.lay_out.auto)
 
-  abbrev count : ℕ
-  count = (start (checks out)).args.count
+pub build_joined-requires-clause-tables_readable : goal.build_joined-requires-clause-tables_readable
+build_joined-requires-clause-tables_readable c =
+    let a = (goal.at.build_joined-requires-clause-tables_readable c).In_ok-actions in
+    let t = tables (laid a) in (
+      tables-readable c.args.count c.args.tables.now c.lay_out.new.work c.in_ok-actions.actions (all t).fit (agreed a).0 (agreed a).1 (counted t).high (room a),
+      acting c.args.count c.args.tables.now c.lay_out.new.work c.in_ok-actions.actions (all t).fit (agreed a).0 (agreed a).1 (omega (arith, (counted t).low)),
+    )
 
-  few : CountFits count
-  few = counted (checks out)
-
-  room : work_length ≤ length (work out)
-  room = let k = out.lay_out.auto in omega (arith, (start (checks out)).requires.to-work.bytes)
-
-pub build_joined-requires : goal.build_joined-requires
-build_joined-requires c =
-    let a = (goal.at.build_joined-requires c).In-One in
-    let fit = (all (fit-tables (found (out a)))).fit in
-    let lent = (start (checks (out a))).requires in record {
-      tables_readable = (
-        tables-readable (count a) (input (checks (out a))) (work (out a)) (actions a) fit (agreed a).0 (agreed a).1 (few a).high (room a),
-        acting (count a) (input (checks (out a))) (work (out a)) (actions a) fit (agreed a).0 (agreed a).1 (omega (arith, (few a).low)),
-      );
-      lent = record {
-        to-work =
-            record {
-              range = lent.to-work.range;
-              bytes = room a;
-              numbers = lent.to-work.numbers;
-            };
-        output = lent.output;
-      };
-    }
-
-pub returns-in-One : goal.returns-in-One
-returns-in-One c =
-    let a = (goal.at.returns-in-One c).In-One in
+pub returns : goal.returns
+returns c =
+    let a = (goal.at.returns c).In_ok-actions in
+    let t = tables (laid a) in
     let e = c.build_joined.ensures in
-    let fit = (all (fit-tables (found (out a)))).fit in
     record {
       written = e.written;
-      gives = meets (few a) fit (whole (found (out a))) (actions a) (agreed a).0 _ _ (machine_meets (count a) (input (checks (out a))) (work (out a)) (actions a) fit (agreed a).0 (agreed a).1 e.gives);
+      gives = meets (counted t) (all t).fit (whole (laid a)) c.in_ok-actions.actions (agreed a).0 _ _ (machine_meets c.args.count c.args.tables.now c.lay_out.new.work c.in_ok-actions.actions (all t).fit (agreed a).0 (agreed a).1 e.gives);
       front = e.front;
     }

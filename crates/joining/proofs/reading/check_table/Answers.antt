@@ -2,78 +2,68 @@
 use mathlib.Core.Path.{◌≡◌, refl, subst}
 use mathlib.Core.Bool.{true}
 use mathlib.Core.List.{List}
-use Prim.Native.Nat.{ℕ, ◌+◌, ◌*◌, ◌-◌, ◌≤◌}
+use Prim.Native.Nat.{ℕ, ◌+◌, ◌*◌, ◌-◌}
 use native.Mathlib.Omega.{arith}
 use borrow.Author.Rules.{rules}
-use lib.ListN.{length, take, drop, length-take}
-use Rattle.table.specs.Table.{table_length, front_table, CanonicalRows}
-use Rattle.table.specs.Answer.{mode_number, accepted, malformed, Loads, FormedAs}
-use Rattle.table.proofs.Formed.{area, whole_of, front-entries, rows_fit, loads-accepted, loads-refused}
-use Rattle.joining.proofs.Walking.{refused-10, refused-11, refused-34, fit-front, enforced-else}
+use lib.ListN.{take, drop}
+use Rattle.std.proofs.Common.{Option, Some, None, Result, Err, ok_or}
+use Rattle.table.specs.Table.{front_table, CanonicalRows}
+use Rattle.table.specs.declared.Header.{Header}
+use Rattle.table.specs.Answer.{mode_number, accepted, malformed, Loads, FormedAs, Checked}
+use Rattle.table.proofs.Formed.{front-entries, rows_fit, loads-accepted, loads-refused}
+use Rattle.joining.specs.Reading.{RefusedBy}
+use Rattle.joining.specs.declared.JoinError.{JoinError}
+use Rattle.joining.specs.declared.JoinError.TheVariants.{Malformed}
+use Rattle.joining.proofs.Walking.{refused-10, refused-11, refused-34, fit-front}
 use Rattle.joining.proofs.reading.check_table.Goals as goal
-use Rattle.joining.proofs.reading.check_table.Goals.{In-Fields}
+use Rattle.joining.proofs.reading.check_table.Goals.{In_ok-header}
+
+-- check 10 fails
+fails : (bytes : List ℕ) (found : Option Header) → Checked (front_table bytes) found → (error : JoinError) → ◌≡◌ {A = Result Header JoinError} (Err error) (ok_or found Malformed)
+    → RefusedBy (front_table bytes) error
+fails bytes None f error e = let is : error ≡ Malformed = cc in rw is (refused-10 bytes (malformed f))
+fails bytes (Some header) f error e = absurd (let z : ◌≡◌ {A = ℕ} 0 1 = cc in omega arith)
+
+pub returns-in_err-header : goal.returns-in_err-header
+returns-in_err-header c =
+    let is : c.from_residual.result ≡ Err c.in_err-header.field-0.0 = search rules in
+    rw is (fails c.args.bytes.now c.check_front.result c.check_front.ensures _ c.in_err-header.ensures.value)
 
 -- check 10 passes
-module _ (c : In-Fields) where
+module _ (c : In_ok-header) where
   abbrev bytes : List ℕ
   bytes = c.args.bytes.now
 
-  abbrev actions : ℕ
-  actions = c.in-Fields.actions
+  abbrev header : Header
+  header = c.in_ok-header.header
 
-  abbrev rows : ℕ
-  rows = c.in-Fields.rows
+  front : FormedAs (front_table bytes) header
+  front = rw c.in_ok-header.ensures.ok_part at c.check_front.ensures
 
-  front : FormedAs (front_table bytes) c.in-Fields.mode actions rows
-  front = rw c.in-Fields.is at c.check_front.ensures
+  entries : take (8 + header.rows * header.actions - 8) (drop 8 bytes) ≡ drop 8 (front_table bytes)
+  entries = front-entries bytes header (8 + header.rows * header.actions) front.fields refl
 
-  size : rows * actions ≤ 1024
-  size = area _ _ _ _ front.fields
-
-  inside : 8 + rows * actions ≤ length bytes
-  inside =
-      let e = whole_of _ _ _ _ front.fields front.formed in
-      omega (arith, e, length-take (table_length bytes) bytes)
-
-  entries : take (8 + rows * actions - 8) (drop 8 bytes) ≡ drop 8 (front_table bytes)
-  entries = front-entries bytes c.in-Fields.mode actions rows (8 + rows * actions) front.fields refl
-
-pub returns-in_default : goal.returns-in_default
-returns-in_default c = refused-10 c.args.bytes.now (malformed (rw c.in_default.is at c.check_front.ensures))
-
-pub overflow_mul-end : goal.overflow_mul-end
-overflow_mul-end c = omega (arith, size c)
-
-pub overflow_add-end : goal.overflow_add-end
-overflow_add-end c = omega (arith, size c)
-
-pub slice_bounds-canonical-end : goal.slice_bounds-canonical-end
-slice_bounds-canonical-end c = inside c
-
-pub canonical-canonical-requires : goal.canonical-canonical-requires
-canonical-canonical-requires c = let at = (goal.at.canonical-canonical-requires c).In-Fields in rw (entries at) (rows_fit _ _ _ _ (front at))
+pub canonical-requires : goal.canonical-requires
+canonical-requires c = let at = (goal.at.canonical-requires c).In_ok-header in rw (entries at) (rows_fit _ _ (front at))
 
 pub returns-then-not-canonical : goal.returns-then-not-canonical
 returns-then-not-canonical c =
-    let at = (goal.at.returns-then-not-canonical c).In-Fields in
-    refused-11 (bytes at) (loads-refused _ _ _ _ (front at) (rw (c.if-not-canonical.true, entries at) at c.canonical-canonical.ensures))
+    let at = (goal.at.returns-then-not-canonical c).In_ok-header in
+    refused-11 (bytes at) (loads-refused _ _ (front at) (rw (c.if-not-canonical.true, entries at) at c.canonical.ensures))
 
 -- check 11 passes
-module _ (c : In-Fields) (canonical : CanonicalRows (rows c) (actions c) (drop 8 (front_table (bytes c)))) where
-  loads : Loads (front_table (bytes c)) (accepted (mode_number c.in-Fields.mode) (actions c) (rows c))
-  loads = loads-accepted _ _ _ _ (front c) canonical
+module _ (c : In_ok-header) (canonical : CanonicalRows (header c).rows (header c).actions (drop 8 (front_table (bytes c)))) where
+  of-type : (n : ℕ) → mode_number (header c).mode ≡ n → Loads (front_table (bytes c)) (accepted n (header c).actions (header c).rows)
+  of-type n e = subst (λ (k : ℕ). Loads (front_table (bytes c)) (accepted k (header c).actions (header c).rows)) e (loads-accepted _ _ (front c) canonical)
 
-  of-type : (n : ℕ) → mode_number c.in-Fields.mode ≡ n → Loads (front_table (bytes c)) (accepted n (actions c) (rows c))
-  of-type n e = subst (λ (k : ℕ). Loads (front_table (bytes c)) (accepted k (actions c) (rows c))) e loads
+pub returns-in-Watched : goal.returns-in-Watched
+returns-in-Watched c =
+    let at = (goal.at.returns-in-Watched c).In_ok-header in
+    let passed : c.canonical.result ≡ true = search rules in
+    refused-34 (bytes at) (of-type at (rw (passed, entries at) at c.canonical.ensures) 2 (rw c.in-Watched.is))
 
-pub returns-then-watched : goal.returns-then-watched
-returns-then-watched c =
-    let at = (goal.at.returns-then-watched c).In-Fields in
-    let passed : c.canonical-canonical.result ≡ true = search rules in
-    refused-34 (bytes at) (of-type at (rw (passed, entries at) at c.canonical-canonical.ensures) 2 (rw c.if-watched.true at c.is_watched-watched.ensures))
-
-pub returns : goal.returns
-returns c =
-    let at = (goal.at.returns c).In-Fields in
-    let passed : c.canonical-canonical.result ≡ true = search rules in
-    fit-front (bytes at) (of-type at (rw (passed, entries at) at c.canonical-canonical.ensures) 1 (enforced-else at.in-Fields.mode (rw c.if-watched.false at c.is_watched-watched.ensures)))
+pub returns-in-Enforced : goal.returns-in-Enforced
+returns-in-Enforced c =
+    let at = (goal.at.returns-in-Enforced c).In_ok-header in
+    let passed : c.canonical.result ≡ true = search rules in
+    fit-front (bytes at) (of-type at (rw (passed, entries at) at c.canonical.ensures) 1 (rw c.in-Enforced.is))
