@@ -63,13 +63,13 @@ pub fn compile(
 ) -> Result<Header, CompileError>
     ensures { CompilesInto sheet.now out.old work.old values.old (answer_of result) out.new work.new values.new }
 {
-    if long_enough(LARGEST_TABLE, out.len(), work.len(), values.len()) {
-        return compile_in(
-            sheet,
-            out,
-            &mut work[..WORK_LENGTH],
-            &mut values[..NUMBERS_LENGTH],
-        );
+    if !long_enough(LARGEST_TABLE, out.len(), work.len(), values.len()) {
+        return Err(CompileError::ShortArea);
     }
-    Err(CompileError::ShortArea)
+    compile_in(
+        sheet,
+        out,
+        &mut work[..WORK_LENGTH],
+        &mut values[..NUMBERS_LENGTH],
+    )
 }

@@ -9,26 +9,19 @@ ghost use Rattle.explaining.specs.Reading.{FindsBy, Standing};
 
 use crate::reading::{all_actions, first_trip, lowest_tripped};
 use crate::{Denial, ExplainError};
-use compiler::build_sheet;
+use compiler::{BuiltSheet, build_sheet};
 use limits::{LARGEST, Limits, NUMBERS_LENGTH, WORK_LENGTH};
 use making::long_enough;
 use reached::reached_by_and;
-use syntax::Sheet;
 use table::is_watched;
-use trace::Mode;
 
 // Finds the first denied action of a list and the node that is named for it, by the rows of the sheet's nodes.
-fn find_denial(
-    mode: Mode,
-    sheet: Sheet,
-    list: &[u8],
-    work: &[u8],
-) -> Result<Option<Denial>, ExplainError>
-    requires { Standing mode sheet work.now }
-    ensures { FindsBy mode sheet list.now (answer_of result) (place_of result) }
+fn find_denial(built: &BuiltSheet, list: &[u8], work: &[u8]) -> Result<Option<Denial>, ExplainError>
+    requires { Standing built.now.mode built.now.sheet work.now }
+    ensures { FindsBy built.now.mode built.now.sheet list.now (answer_of result) (place_of result) }
 {
-    let actions = sheet.actions;
-    let watched = is_watched(mode);
+    let actions = built.sheet.actions;
+    let watched = is_watched(built.mode);
     let outside = !all_actions(list, actions);
     if watched {
         return Err(ExplainError::WatchedSheet);
@@ -36,13 +29,12 @@ fn find_denial(
     if outside {
         return Err(ExplainError::NoAction);
     }
-    let count = sheet.count;
-    let last = (count - 1) as u8;
+    let policy = built.sheet.count - 1;
+    let last = policy as u8;
     let Some(place) = first_trip(work, actions, last, list) else {
         return Ok(None);
     };
-    let nodes = sheet.nodes;
-    let set = reached_by_and(nodes, count - 1);
+    let set = reached_by_and(built.sheet.nodes, policy);
     let end = place + 1;
     let node = lowest_tripped(work, actions, set, last, &list[..end]);
     Ok(Some(Denial {
@@ -63,7 +55,7 @@ fn explain_with(
     ensures { Explains sheet.now list.now limits (answer_of result) (place_of result) }
 {
     let built = build_sheet(sheet, work, values, limits)?;
-    find_denial(built.mode, built.sheet, list, work)
+    find_denial(&built, list, work)
 }
 
 // Writes the place of a denial.
@@ -109,14 +101,14 @@ pub fn explain(
 ) -> Result<Option<Denial>, ExplainError>
     ensures { ExplainsInto sheet.now list.now out.old work.old values.old (answer_of result) out.new work.new values.new }
 {
-    if long_enough(1, out.len(), work.len(), values.len()) {
-        return explain_in(
-            sheet,
-            list,
-            out,
-            &mut work[..WORK_LENGTH],
-            &mut values[..NUMBERS_LENGTH],
-        );
+    if !long_enough(1, out.len(), work.len(), values.len()) {
+        return Err(ExplainError::ShortArea);
     }
-    Err(ExplainError::ShortArea)
+    explain_in(
+        sheet,
+        list,
+        out,
+        &mut work[..WORK_LENGTH],
+        &mut values[..NUMBERS_LENGTH],
+    )
 }

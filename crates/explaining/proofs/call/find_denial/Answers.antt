@@ -27,7 +27,7 @@ use Rattle.explaining.proofs.call.find_denial.Goals.{Else-outside, Else-watched,
 
 pub returns-then-watched : goal.returns-then-watched
 returns-then-watched c =
-    let e = watched-mode c.args.mode (subst (Decides (mode_number c.args.mode ≡ 2)) c.if-watched.true c.is_watched-watched.ensures) in
+    let e = watched-mode c.args.built.now.mode (subst (Decides (mode_number c.args.built.now.mode ≡ 2)) c.if-watched.true c.is_watched-watched.ensures) in
     rw e (refl, refl)
 
 -- what is found of an enforced sheet
@@ -42,20 +42,20 @@ module _ (c : Else-watched) where
   abbrev list : List ℕ
   list = start.args.list.now
 
-  enforced : start.args.mode ≡ Enforced
-  enforced = enforced-mode start.args.mode (subst (Decides (mode_number start.args.mode ≡ 2)) c.if-watched.false c.is_watched-watched.ensures)
+  enforced : start.args.built.now.mode ≡ Enforced
+  enforced = enforced-mode start.args.built.now.mode (subst (Decides (mode_number start.args.built.now.mode ≡ 2)) c.if-watched.false c.is_watched-watched.ensures)
 
-  stands : Standing Enforced start.args.sheet start.args.work.now
-  stands = subst (λ (m : Mode). Standing m start.args.sheet start.args.work.now) enforced start.requires
+  stands : Standing Enforced start.args.built.now.sheet start.args.work.now
+  stands = subst (λ (m : Mode). Standing m start.args.built.now.sheet start.args.work.now) enforced start.requires
 
-  found : (answer : Explanation) {written : List ℕ} → Finds start.args.sheet list answer written → FindsBy start.args.mode start.args.sheet list answer written
+  found : (answer : Explanation) {written : List ℕ} → Finds start.args.built.now.sheet list answer written → FindsBy start.args.built.now.mode start.args.built.now.sheet list answer written
   found answer f = found-of enforced answer f
 
 pub returns-then-outside : goal.returns-then-outside
 returns-then-outside c =
     let a = c.args in
     let passed : c.is_watched-watched.result ≡ false = search rules in
-    let enforced = enforced-mode a.mode (subst (Decides (mode_number a.mode ≡ 2)) passed c.is_watched-watched.ensures) in
+    let enforced = enforced-mode a.built.now.mode (subst (Decides (mode_number a.built.now.mode ≡ 2)) passed c.is_watched-watched.ensures) in
     found-of enforced (refused 12 0) (no-action (not-sequence _ a.list.now (rw c.if-outside.true at c.all_actions-outside.ensures)))
 
 -- the list is one of actions
@@ -63,13 +63,15 @@ module _ (c : Else-outside) where
   abbrev mine : Else-watched
   mine = (goal.at.Else-outside c).Else-watched
 
-  sequence : Sequence (start mine).args.sheet.actions (list mine)
+  sequence : Sequence (start mine).args.built.now.sheet.actions (list mine)
   sequence =
-      subst (Decides (Sequence (start mine).args.sheet.actions (list mine))) c.if-outside.false
+      subst (Decides (Sequence (start mine).args.built.now.sheet.actions (list mine))) c.if-outside.false
       mine.all_actions-outside.ensures
 
 pub first_trip-requires : goal.first_trip-requires
-first_trip-requires c = walkable (stands (mine c)) (list (mine c)) (sequence c)
+first_trip-requires c =
+    let q = (goal.at.first_trip-requires c).Else-outside in
+    walkable (stands (mine q)) (list (mine q)) (sequence q)
 
 pub returns-in_default : goal.returns-in_default
 returns-in_default c =
@@ -93,14 +95,14 @@ module _ (c : In-Some) where
   abbrev place : ℕ
   place = c.in-Some.place
 
-  first : FirstDenied (start own).args.sheet (list own) place
+  first : FirstDenied (start own).args.built.now.sheet (list own) place
   first = first-denied-by (stands own) (list own) (sequence all) c.in-Some.ensures
 
   abbrev front : List ℕ
   front = take (suc place) (list own)
 
-  fronts : Sequence (start own).args.sheet.actions front
-  fronts = sequence-take (start own).args.sheet.actions (suc place) (list own) (sequence all)
+  fronts : Sequence (start own).args.built.now.sheet.actions front
+  fronts = sequence-take (start own).args.built.now.sheet.actions (suc place) (list own) (sequence all)
 
 pub slice_bounds-lowest_tripped-end : goal.slice_bounds-lowest_tripped-end
 slice_bounds-lowest_tripped-end c =

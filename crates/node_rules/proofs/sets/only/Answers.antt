@@ -1,8 +1,0 @@
--- `node_rules::sets::only` meets its contract.
-use mathlib.Core.Path.{◌∙◌}
-use native.Mathlib.Omega.{arith}
-use lib.Pow.{shl_exact}
-use Rattle.node_rules.proofs.sets.only.Goals as goal
-
-pub returns : goal.returns
-returns c = shl_exact 1 c.args.action 16 (omega arith) (omega arith) ∙ omega arith
