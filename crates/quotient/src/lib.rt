@@ -1,19 +1,10 @@
 // The quotient of a machine by its classes.
 #![tactic(auto)]
 
-ghost use Rattle.std.specs.Prelude.{◌≡◌, ◌++◌, ◌*◌, ◌<◌, length, drop};
-ghost use Rattle.automaton.specs.Partition.{first_of};
+ghost use Rattle.std.specs.Prelude.{◌≡◌, ◌++◌, ◌*◌, drop};
 ghost use Rattle.automaton.specs.Quotient.{quotient_rows, Divisible};
 
 use signatures::class_behind;
-
-// The first member of a class.
-fn first_of(firsts: &[usize], class: usize) -> usize
-    requires { class < length firsts.now }
-    ensures { result ≡ first_of firsts.now class }
-{
-    firsts[class]
-}
 
 // Writes a row for each class: the classes behind its first member, 255 for a trip.
 pub fn quotient(
@@ -27,12 +18,10 @@ pub fn quotient(
     requires { Divisible actions count next.now firsts.now out.old }
     ensures { out.new ≡ quotient_rows actions count next.now classes.now firsts.now ++ drop (count * actions) out.old }
 {
-    let mut k = 0;
     for row in 0..count {
-        let from = first_of(firsts, row) * actions;
+        let from = firsts[row] * actions;
         for action in 0..actions {
-            out[k] = class_behind(next, classes, from + action);
-            k += 1;
+            out[row * actions + action] = class_behind(next, classes, from + action);
         }
     }
 }
