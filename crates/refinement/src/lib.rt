@@ -61,13 +61,6 @@ fn begin(
     Some(1)
 }
 
-// Room for the first members of at most 64 classes. Only the length is known.
-pub fn room_for_firsts() -> [usize; 64]
-    ensures { length result ≡ 64 }
-{
-    [0usize; 64]
-}
-
 // The classes of alike states, with their first members: the number of them, or none where there are more than the limit. `other` is scratch.
 pub fn refine(
     next: &[u16],
