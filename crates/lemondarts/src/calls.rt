@@ -10,14 +10,14 @@ use places::Board;
 use records::{RECORD, read_board, write_board};
 
 // Writes the board back where the answer changes it, and returns the answer's number.
-fn write_back(bytes: &mut [u8], next: Board, answer: NumberedReply) -> u64
+fn write_back(bytes: &mut [u8], board: Board, answer: NumberedReply) -> u64
     requires { record_length ≤ length bytes.old }
-    ensures { (result ≡ answer.0) × (bytes.new ≡ cond answer.1 (written next bytes.old) bytes.old) }
+    ensures { (result ≡ answer.number) × (bytes.new ≡ cond answer.changes (written board bytes.old) bytes.old) }
 {
-    if answer.1 {
-        write_board(bytes, next);
+    if answer.changes {
+        write_board(bytes, board);
     }
-    answer.0
+    answer.number
 }
 
 // Loads a table: its type, actions and rows, or refusal 10 or 11.
@@ -34,10 +34,9 @@ pub fn lemondarts_new_board(bytes: &mut [u8], area: &mut [u8]) -> u64
     if bytes.len() < RECORD {
         return 14;
     }
-    let made = board::new_board(area);
-    let next = made.board;
-    let reply = made.answer;
-    write_back(bytes, next, made_answer(reply))
+    let mut board = Board::empty();
+    let made = board::new_board(&mut board, area);
+    write_back(bytes, board, made_answer(made))
 }
 
 // Puts a table on a place.
@@ -47,10 +46,9 @@ pub fn lemondarts_put_on(bytes: &mut [u8], area: &mut [u8], place: usize, table:
     if bytes.len() < RECORD {
         return 14;
     }
-    let put = board::put_on(read_board(bytes), area, place, table);
-    let next = put.board;
-    let reply = put.answer;
-    write_back(bytes, next, put_answer(reply))
+    let mut board = read_board(bytes);
+    let put = board::put_on(&mut board, area, place, table);
+    write_back(bytes, board, put_answer(put))
 }
 
 // Takes a table off its place.
@@ -60,10 +58,9 @@ pub fn lemondarts_take_off(bytes: &mut [u8], area: &mut [u8], place: usize) -> u
     if bytes.len() < RECORD {
         return 14;
     }
-    let taken = board::take_off(read_board(bytes), area, place);
-    let next = taken.board;
-    let reply = taken.answer;
-    write_back(bytes, next, take_answer(reply))
+    let mut board = read_board(bytes);
+    let taken = board::take_off(&mut board, area, place);
+    write_back(bytes, board, take_answer(taken))
 }
 
 // Permits or denies an action. The area is only read.
@@ -73,8 +70,7 @@ pub fn lemondarts_action(bytes: &mut [u8], area: &[u8], action: usize) -> u64
     if bytes.len() < RECORD {
         return 14;
     }
-    let acted = board_actions::action(read_board(bytes), area, action);
-    let next = acted.board;
-    let reply = acted.answer;
-    write_back(bytes, next, act_answer(reply))
+    let mut board = read_board(bytes);
+    let acted = board_actions::action(&mut board, area, action);
+    write_back(bytes, board, act_answer(acted))
 }

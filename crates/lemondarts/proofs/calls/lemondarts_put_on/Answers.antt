@@ -9,7 +9,7 @@ use Rattle.lemondarts.proofs.calls.lemondarts_put_on.Goals as goal
 pub returns : goal.returns
 returns c =
     let g = c.args in
-    returned (λ board. Calls board g.area.now (put_on g.place g.table.now)) c.if-bytes-lt-RECORD.false c.read_board.ensures c.put_on-put.ensures
+    returned (λ board. Calls board g.area.now (put_on g.place g.table.now)) c.if-bytes-lt-RECORD.false c.read_board-board.ensures c.put_on-put.ensures
     c.put_answer.ensures c.write_back.ensures
 
 pub returns-then-bytes-lt-RECORD : goal.returns-then-bytes-lt-RECORD

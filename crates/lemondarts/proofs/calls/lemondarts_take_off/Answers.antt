@@ -9,7 +9,7 @@ use Rattle.lemondarts.proofs.calls.lemondarts_take_off.Goals as goal
 pub returns : goal.returns
 returns c =
     let g = c.args in
-    returned (λ board. Calls board g.area.now (take-off g.place)) c.if-bytes-lt-RECORD.false c.read_board.ensures c.take_off-taken.ensures
+    returned (λ board. Calls board g.area.now (take-off g.place)) c.if-bytes-lt-RECORD.false c.read_board-board.ensures c.take_off-taken.ensures
     c.take_answer.ensures c.write_back.ensures
 
 pub returns-then-bytes-lt-RECORD : goal.returns-then-bytes-lt-RECORD
