@@ -15,11 +15,9 @@ use Rattle.syntax.specs.Shape.{Conjunction, Disjunction, And, Or, BeforeMinus, B
 use Rattle.syntax.specs.declared.Node.{Node}
 use Rattle.syntax.specs.declared.Sheet.{Sheet}
 use Rattle.reached.specs.Reached.{Reached, reached_set}
-use Rattle.reached.specs.Parts.{parts_in, parts_of, InParts, PartOf, Used, AndPart, left, right, ReachedByAnd, and_parts_in, and_parts, parts_by, set_of_parts, part_sets, used_set, and_set, PartsEarlier}
+use Rattle.reached.specs.Parts.{parts_in, parts_of, InParts, PartOf, Used, AndPart, left, right, ReachedByAnd, and_parts_in, and_parts, set_of_parts, part_sets, used_set, and_set, PartsEarlier}
 use Rattle.reached.specs.declared.Parts.{Parts}
 use Rattle.reached.specs.declared.Parts.TheVariants.{NoPart, OnePart, TwoParts, ThreeParts}
-use Rattle.reached.specs.declared.Through.{Through}
-use Rattle.reached.specs.declared.Through.TheVariants.{EveryKind, AndAlone}
 use Rattle.reached.proofs.ReachedSets.{reached-map, reached-no-later, reached-set}
 use Rattle.reached.proofs.NodeParts.{part-has}
 
@@ -54,12 +52,9 @@ and-shape m (ternary k a b c) p = absurd p
 pub and-in-parts : (m : ℕ) (node : Node) → InParts (and_parts node) m → InParts (parts_of node) m
 and-in-parts m node p = let h = and-shape m (shape_of node) p in subst (λ (s : Shape ℕ). InParts (parts_in s) m) (sym h.2) h.3
 
-by-in-parts : (through : Through) (m : ℕ) (node : Node) → InParts (parts_by through node) m → InParts (parts_of node) m
-by-in-parts EveryKind m node p = p
-by-in-parts AndAlone m node p = and-in-parts m node p
-
-pub part-by-below : (through : Through) (n m : ℕ) (node : Node) → PartsBelow n node → InParts (parts_by through node) m → m < n
-part-by-below through n m node h p = part-below n m node h (by-in-parts through m node p)
+-- the parts of an And stand before it
+pub and-part-below : (n m : ℕ) (node : Node) → PartsBelow n node → InParts (and_parts node) m → m < n
+and-part-below n m node h p = part-below n m node h (and-in-parts m node p)
 
 -- AndPart, by the parts
 and-node : (sheet : Sheet) (n m : ℕ) → InParts (and_parts (node_of sheet n)) m → AndPart sheet n m
@@ -75,15 +70,13 @@ from-and sheet n m (right q) = rw q (inr refl)
 pub and-is-part : (sheet : Sheet) (n m : ℕ) → AndPart sheet n m → PartOf sheet n m
 and-is-part sheet n m p = and-in-parts m (node_of sheet n) (from-and sheet n m p)
 
-module _ (sheet : Sheet) (through : Through) (from : ℕ) (formed : PartsEarlier sheet.nodes from) where
+module _ (sheet : Sheet) (parts : Node → Parts) (from : ℕ) (earlier : (n m : ℕ) → n ≤ from → InParts (parts (node_of sheet n)) m → m < n) where
   -- bit m of the set is set exactly where m is reached
-  by-set : (m : ℕ) → (bit (reached_set (part_sets through sheet.nodes) from) m ≡ true)
-      ↔ Reached (λ n m. InParts (parts_by through (node_of sheet n)) m) from m
+  by-set : (m : ℕ) → (bit (reached_set (part_sets parts sheet.nodes) from) m ≡ true) ↔ Reached (λ n m. InParts (parts (node_of sheet n)) m) from m
   by-set m =
-      let e = reached-set (part_sets through sheet.nodes) from
-      (λ n m h p. part-by-below through n m (node_of sheet n) (formed n h) ((in-set (parts_by through (node_of sheet n)) m).0 p)) m in (
-        λ b. reached-map (λ n m p. (in-set (parts_by through (node_of sheet n)) m).0 p) (e.0 b),
-        λ r. e.1 (reached-map (λ n m p. (in-set (parts_by through (node_of sheet n)) m).1 p) r),
+      let e = reached-set (part_sets parts sheet.nodes) from (λ n m h p. earlier n m h ((in-set (parts (node_of sheet n)) m).0 p)) m in (
+        λ b. reached-map (λ n m p. (in-set (parts (node_of sheet n)) m).0 p) (e.0 b),
+        λ r. e.1 (reached-map (λ n m p. (in-set (parts (node_of sheet n)) m).1 p) r),
       )
 
 module _ (sheet : Sheet) (from : ℕ) (formed : PartsEarlier sheet.nodes from) where
@@ -94,7 +87,7 @@ module _ (sheet : Sheet) (from : ℕ) (formed : PartsEarlier sheet.nodes from) w
   -- Bit m of the set is set exactly where m is reached through And alone.
   pub reached-by-and : (m : ℕ) → (bit (and_set sheet.nodes from) m ≡ true) ↔ ReachedByAnd sheet from m
   reached-by-and m =
-      let e = by-set sheet AndAlone from formed m in
+      let e = by-set sheet and_parts from (λ n m h p. and-part-below n m (node_of sheet n) (formed n h) p) m in
       (λ b. reached-map (λ n m p. and-node sheet n m p) (e.0 b), λ r. e.1 (reached-map (from-and sheet) r))
 
 module _ (sheet : Sheet) (formed : Formed sheet) where
@@ -103,7 +96,7 @@ module _ (sheet : Sheet) (formed : Formed sheet) where
 
   -- Bit n of the set is set exactly where node n is used.
   pub used-exactly : (n : ℕ) → (bit (used_set sheet) n ≡ true) ↔ Used sheet n
-  used-exactly n = by-set sheet EveryKind (sheet.count - 1) all-earlier n
+  used-exactly n = by-set sheet parts_of (sheet.count - 1) (λ n m h p. part-below n m (node_of sheet n) (all-earlier n h) p) n
 
   -- a used node is a node
   pub used-below : {n : ℕ} → Used sheet n → n < sheet.count

@@ -11,8 +11,6 @@ use Rattle.syntax.specs.declared.Sheet.{Sheet}
 use Rattle.reached.specs.Reached.{Reached, reached_set}
 use Rattle.reached.specs.declared.Parts.{Parts}
 use Rattle.reached.specs.declared.Parts.TheVariants.{NoPart, OnePart, TwoParts, ThreeParts}
-use Rattle.reached.specs.declared.Through.{Through}
-use Rattle.reached.specs.declared.Through.TheVariants.{EveryKind, AndAlone}
 
 -- The parts of a node, action formulas among them.
 abbrev pub parts_in : Shape ℕ → Parts
@@ -66,11 +64,6 @@ and_parts_in (ternary k a b c) = NoPart
 abbrev pub and_parts : Node → Parts
 and_parts node = and_parts_in (shape_of node)
 
--- The parts that are gone to: those of every node, or of Ands alone.
-abbrev pub parts_by : Through → Node → Parts
-parts_by EveryKind node = parts_of node
-parts_by AndAlone node = and_parts node
-
 -- Parts as a set of bits.
 abbrev pub set_of_parts : Parts → ℕ
 set_of_parts NoPart = 0
@@ -78,15 +71,16 @@ set_of_parts (OnePart a) = 2 ^ a
 set_of_parts (TwoParts a b) = bit_or (2 ^ a) (2 ^ b)
 set_of_parts (ThreeParts a b c) = bit_or (2 ^ a) (bit_or (2 ^ b) (2 ^ c))
 
-abbrev pub part_sets : Through → List Node → ℕ → ℕ
-part_sets through nodes n = set_of_parts (parts_by through (node_at nodes n))
+-- The set of the parts that are gone to from node n.
+abbrev pub part_sets : (Node → Parts) → List Node → ℕ → ℕ
+part_sets parts nodes n = set_of_parts (parts (node_at nodes n))
 
 -- The set of the used nodes of a sheet, and of those that are reached from one through And alone.
 abbrev pub used_set : Sheet → ℕ
-used_set sheet = reached_set (part_sets EveryKind sheet.nodes) (sheet.count - 1)
+used_set sheet = reached_set (part_sets parts_of sheet.nodes) (sheet.count - 1)
 
 abbrev pub and_set : List Node → (from : ℕ) → ℕ
-and_set nodes from = reached_set (part_sets AndAlone nodes) from
+and_set nodes from = reached_set (part_sets and_parts nodes) from
 
 -- Parts stand before their node.
 abbrev pub PartsEarlier : List Node → (from : ℕ) → Type 0

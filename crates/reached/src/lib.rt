@@ -3,8 +3,10 @@
 
 ghost use Rattle.std.specs.Prelude.{◌≡◌, ℕ, ◌^◌, ◌-◌, ◌≤◌, ◌<◌};
 ghost use Rattle.reached.specs.Reached.{reached_set};
-ghost use Rattle.reached.specs.Parts.{parts_of, InParts, and_parts, parts_by, set_of_parts, part_sets, and_set, PartsEarlier};
-ghost use Rattle.reached.specs.declared.Through.TheVariants.{EveryKind};
+ghost use Rattle.reached.specs.Parts.{parts_of, InParts, and_parts, set_of_parts, part_sets, and_set, PartsEarlier};
+ghost use Rattle.syntax.specs.Nodes.{node_at};
+ghost use Rattle.syntax.specs.declared.Node.{Node};
+ghost use Rattle.reached.specs.declared.Parts.{Parts};
 
 use syntax::Node;
 
@@ -15,13 +17,6 @@ pub enum Parts {
     OnePart(u8),
     TwoParts(u8, u8),
     ThreeParts(u8, u8, u8),
-}
-
-// Which nodes are gone through to their parts.
-#[derive(Clone, Copy)]
-pub enum Through {
-    EveryKind,
-    AndAlone,
 }
 
 // The parts of a node, action formulas among them.
@@ -59,16 +54,6 @@ fn and_parts(node: Node) -> Parts
     }
 }
 
-// The parts that are gone to from a node.
-fn parts_by(through: Through, node: Node) -> Parts
-    ensures { result ≡ parts_by through node }
-{
-    match through {
-        Through::EveryKind => parts_of(node),
-        Through::AndAlone => and_parts(node),
-    }
-}
-
 // The set of one node.
 fn only(n: u8) -> u64
     requires { n < 64 }
@@ -90,16 +75,19 @@ fn set_of_parts(parts: Parts) -> u64
     }
 }
 
-// What is reached from a node, in one pass from that node down.
-fn reached_from(through: Through, nodes: [Node; 64], from: usize) -> u64
+// What is reached from a node by going to parts, in one pass from that node down.
+fn reached_from<F: Fn(Node) -> Parts>(parts: F, nodes: [Node; 64], from: usize) -> u64
+    ghost by: { Node → Parts }
+    requires callable { F.IsAlwaysCallable parts }
+    requires gives { (n : ℕ) (given : Parts) → n ≤ from → F.post parts (node_at nodes n) given → given ≡ by (node_at nodes n) }
+    requires low { (n m : ℕ) → n ≤ from → InParts (by (node_at nodes n)) m → m < 64 }
     requires from_bound { from < 64 }
-    requires parts_earlier { PartsEarlier nodes from }
-    ensures { result ≡ reached_set (part_sets through nodes) from }
+    ensures { result ≡ reached_set (part_sets by nodes) from }
 {
     let mut set = 1u64 << from;
     for n in (0..=from).rev() {
         if (set >> n) % 2 == 1 {
-            set |= set_of_parts(parts_by(through, nodes[n]));
+            set |= set_of_parts(parts(nodes[n]));
         }
     }
     set
@@ -111,14 +99,14 @@ pub fn reached_by_and(nodes: [Node; 64], from: usize) -> u64
     requires parts_earlier { PartsEarlier nodes from }
     ensures { result ≡ and_set nodes from }
 {
-    reached_from(Through::AndAlone, nodes, from)
+    reached_from(and_parts, nodes, from)
 }
 
 // The used nodes among the first `count`: the last one, and every part of a used one.
 pub fn used_nodes(nodes: [Node; 64], count: usize) -> u64
     requires le_count { (1 ≤ count) × (count ≤ 64) }
     requires parts_earlier { PartsEarlier nodes (count - 1) }
-    ensures { result ≡ reached_set (part_sets EveryKind nodes) (count - 1) }
+    ensures { result ≡ reached_set (part_sets parts_of nodes) (count - 1) }
 {
-    reached_from(Through::EveryKind, nodes, count - 1)
+    reached_from(parts_of, nodes, count - 1)
 }

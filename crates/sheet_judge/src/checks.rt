@@ -6,7 +6,7 @@ ghost use Rattle.reached.specs.Parts.{PartsEarlier};
 ghost use Rattle.typing.specs.Typed.{no_types, faulty, judge_last, judge_sheet};
 ghost use Rattle.sheet_layout.specs.Layout.{layout_of};
 ghost use Rattle.sheet_reading.specs.Reading.{read_actions, read_nodes};
-ghost use Rattle.sheet_judge.specs.Judge.{types_by, judged_sheet, judged_read, judged, ReadWithin};
+ghost use Rattle.sheet_judge.specs.Judge.{types_by, judged_sheet, judged_read, judged};
 
 use crate::JudgedSheet;
 use reached::used_nodes;
@@ -61,16 +61,17 @@ fn untyped(sheet: Sheet, fault: Fault) -> JudgedSheet
     }
 }
 
-// The first fault of checks 4 and 5 of the nodes that were read; where there is none, checks 6 and 7.
-fn judge_read(actions: usize, propositions: [u16; 16], count: usize, read: NodesRead) -> JudgedSheet
-    requires { ReadWithin count read }
-    ensures { result ≡ judged_read actions propositions count read }
+// Checks 4 to 7 of a sheet whose areas are found: the first fault of checks 4 and 5 of its nodes; where there is none, checks 6 and 7.
+fn judge_laid(bytes: &[u8], layout: Layout) -> JudgedSheet
+    requires { layout_of bytes.now ≡ Ok layout }
+    ensures { result ≡ judged_read layout.actions (read_actions bytes.now layout.actions) layout.nodes (read_nodes bytes.now layout.nodes) }
 {
-    let NodesRead { judged, nodes } = read;
+    let propositions = read_actions(bytes, layout.actions_at, layout.actions);
+    let NodesRead { judged, nodes } = read_nodes(bytes, layout.nodes_at, layout.nodes);
     let sheet = Sheet {
-        actions,
+        actions: layout.actions,
         propositions,
-        count,
+        count: layout.nodes,
         nodes,
     };
     match judged {
@@ -79,27 +80,16 @@ fn judge_read(actions: usize, propositions: [u16; 16], count: usize, read: Nodes
     }
 }
 
-// Checks 4 to 7 of a sheet whose areas are found.
-fn judge_laid(bytes: &[u8], layout: Layout) -> JudgedSheet
-    requires { layout_of bytes.now ≡ Ok layout }
-    ensures { result ≡ judged_read layout.actions (read_actions bytes.now layout.actions) layout.nodes (read_nodes bytes.now layout.nodes) }
+// A sheet of which nothing is read.
+fn empty_sheet() -> Sheet
+    ensures { result ≡ sheet_of 0 no_propositions 0 no_nodes }
 {
-    let propositions = read_actions(bytes, layout.actions_at, layout.actions);
-    let read = read_nodes(bytes, layout.nodes_at, layout.nodes);
-    judge_read(layout.actions, propositions, layout.nodes, read)
-}
-
-// A sheet whose areas are not found: nothing is read of it.
-fn unread(fault: Fault) -> JudgedSheet
-    ensures { result ≡ judged_sheet (sheet_of 0 no_propositions 0 no_nodes) no_types (faulty fault) }
-{
-    let sheet = Sheet {
+    Sheet {
         actions: 0,
         propositions: [0; 16],
         count: 0,
         nodes: [Node::True; 64],
-    };
-    untyped(sheet, fault)
+    }
 }
 
 // The first fault of any bytes, or none, with the sheet and the types of its nodes as far as they were found.
@@ -108,6 +98,6 @@ pub fn judge(bytes: &[u8]) -> JudgedSheet
 {
     match find_layout(bytes) {
         Ok(layout) => judge_laid(bytes, layout),
-        Err(fault) => unread(fault),
+        Err(fault) => untyped(empty_sheet(), fault),
     }
 }

@@ -1,6 +1,6 @@
 // Reading a node: checks 4 and 5.
 ghost use Rattle.std.specs.Prelude.{◌≡◌, ◌+◌, ◌<◌, length, get_or};
-ghost use Rattle.sheet_reading.specs.Reading.{no_part, argument_only, one_part, two_parts, three_parts, read_fields};
+ghost use Rattle.sheet_reading.specs.Reading.{read_fields};
 
 use crate::NodeError;
 use syntax::Node;
@@ -16,87 +16,37 @@ fn given(right: bool, node: Node) -> Result<Node, NodeError>
     }
 }
 
-// A node whose fields are all unused.
-fn no_part(argument: u8, a: u8, b: u8, c: u8, node: Node) -> Result<Node, NodeError>
-    ensures { result ≡ no_part argument a b c node }
-{
-    given((argument == 0) & ((a == 0) & ((b == 0) & (c == 0))), node)
-}
-
-// A node with an argument from low to high and no part.
-fn argument_only(
-    low: u8,
-    high: u8,
-    argument: u8,
-    a: u8,
-    b: u8,
-    c: u8,
-    node: Node,
-) -> Result<Node, NodeError>
-    ensures { result ≡ argument_only low high argument a b c node }
-{
-    given(
-        ((low <= argument) & (argument <= high)) & ((a == 0) & ((b == 0) & (c == 0))),
-        node,
-    )
-}
-
-// A node with one part, lower than its own number n.
-fn one_part(n: usize, argument: u8, a: u8, b: u8, c: u8, node: Node) -> Result<Node, NodeError>
-    ensures { result ≡ one_part n argument a b c node }
-{
-    given(
-        (argument == 0) & ((usize::from(a) < n) & ((b == 0) & (c == 0))),
-        node,
-    )
-}
-
-// A node with two parts.
-fn two_parts(n: usize, argument: u8, a: u8, b: u8, c: u8, node: Node) -> Result<Node, NodeError>
-    ensures { result ≡ two_parts n argument a b c node }
-{
-    given(
-        (argument == 0) & ((usize::from(a) < n) & ((usize::from(b) < n) & (c == 0))),
-        node,
-    )
-}
-
-// A node with three parts and an argument from 1 to 60.
-fn three_parts(n: usize, argument: u8, a: u8, b: u8, c: u8, node: Node) -> Result<Node, NodeError>
-    ensures { result ≡ three_parts n argument a b c node }
-{
-    given(
-        ((1 <= argument) & (argument <= 60))
-            & ((usize::from(a) < n) & ((usize::from(b) < n) & (usize::from(c) < n))),
-        node,
-    )
-}
-
-// Node n, from its five fields: the kind, the argument, the parts.
+// Node n, from its five fields: the kind, the argument, the parts. A part is lower than n, and what a kind does not use is 0.
 fn read_fields(n: usize, kind: u8, argument: u8, a: u8, b: u8, c: u8) -> Result<Node, NodeError>
     ensures { result ≡ read_fields n kind argument a b c }
 {
+    let bare = argument == 0;
+    let counted = (1 <= argument) & (argument <= 60);
+    let none = (a == 0) & ((b == 0) & (c == 0));
+    let one = (usize::from(a) < n) & ((b == 0) & (c == 0));
+    let two = (usize::from(a) < n) & ((usize::from(b) < n) & (c == 0));
+    let three = (usize::from(a) < n) & ((usize::from(b) < n) & (usize::from(c) < n));
     match kind {
-        1 => no_part(argument, a, b, c, Node::True),
-        2 => no_part(argument, a, b, c, Node::False),
-        3 => argument_only(0, 15, argument, a, b, c, Node::Proposition(argument)),
-        4 => one_part(n, argument, a, b, c, Node::Negation(a)),
-        5 => two_parts(n, argument, a, b, c, Node::Conjunction(a, b)),
-        6 => two_parts(n, argument, a, b, c, Node::Disjunction(a, b)),
-        10 => one_part(n, argument, a, b, c, Node::Now(a)),
-        11 => one_part(n, argument, a, b, c, Node::Holds(a)),
-        12 => argument_only(1, 60, argument, a, b, c, Node::Count(argument)),
-        13 => one_part(n, argument, a, b, c, Node::Not(a)),
-        14 => two_parts(n, argument, a, b, c, Node::And(a, b)),
-        15 => two_parts(n, argument, a, b, c, Node::Or(a, b)),
-        16 => one_part(n, argument, a, b, c, Node::Eventually(a)),
-        17 => one_part(n, argument, a, b, c, Node::Always(a)),
-        18 => two_parts(n, argument, a, b, c, Node::BeforeMinus(a, b)),
-        19 => two_parts(n, argument, a, b, c, Node::BeforePlus(a, b)),
-        20 => two_parts(n, argument, a, b, c, Node::AfterMinus(a, b)),
-        21 => two_parts(n, argument, a, b, c, Node::AfterPlus(a, b)),
-        22 => three_parts(n, argument, a, b, c, Node::Fulfilling(argument, a, b, c)),
-        23 => two_parts(n, argument, a, b, c, Node::Ignoring(a, b)),
+        1 => given(bare & none, Node::True),
+        2 => given(bare & none, Node::False),
+        3 => given((argument <= 15) & none, Node::Proposition(argument)),
+        4 => given(bare & one, Node::Negation(a)),
+        5 => given(bare & two, Node::Conjunction(a, b)),
+        6 => given(bare & two, Node::Disjunction(a, b)),
+        10 => given(bare & one, Node::Now(a)),
+        11 => given(bare & one, Node::Holds(a)),
+        12 => given(counted & none, Node::Count(argument)),
+        13 => given(bare & one, Node::Not(a)),
+        14 => given(bare & two, Node::And(a, b)),
+        15 => given(bare & two, Node::Or(a, b)),
+        16 => given(bare & one, Node::Eventually(a)),
+        17 => given(bare & one, Node::Always(a)),
+        18 => given(bare & two, Node::BeforeMinus(a, b)),
+        19 => given(bare & two, Node::BeforePlus(a, b)),
+        20 => given(bare & two, Node::AfterMinus(a, b)),
+        21 => given(bare & two, Node::AfterPlus(a, b)),
+        22 => given(counted & three, Node::Fulfilling(argument, a, b, c)),
+        23 => given(bare & two, Node::Ignoring(a, b)),
         _ => Err(NodeError::UnknownKind),
     }
 }

@@ -6,7 +6,6 @@ use mathlib.Core.Path.{◌≡◌, refl, subst}
 use mathlib.Core.Bool.{Bool, true, false, cond}
 use mathlib.Core.List.{List}
 use Prim.Native.Nat.{ℕ}
-use native.Mathlib.Omega.{arith}
 use Rattle.trace.specs.declared.Mode.{Mode}
 use Rattle.policy.specs.declared.Bound.{Bound}
 use Rattle.policy.specs.Formula.{Formula as ActionFormula}
@@ -19,7 +18,7 @@ use Rattle.syntax.specs.declared.Node.{Node}
 use Rattle.syntax.specs.declared.Node.TheVariants.{True, False, Proposition, Negation, Conjunction, Disjunction, Now, Holds, Count, Not, And, Or, Eventually, Always, BeforeMinus, BeforePlus, AfterMinus, AfterPlus, Fulfilling, Ignoring}
 use Rattle.syntax.specs.declared.NodeType.{NodeType}
 use Rattle.syntax.specs.declared.NodeType.TheVariants.{Unused, Formula, Policy}
-use Rattle.syntax.proofs.NodeTypes.{EachPart, FormulaBefore, PolicyBefore, unfit, from-formula}
+use Rattle.syntax.proofs.NodeTypes.{EachPart, FormulaBefore, PolicyBefore, from-formula}
 
 formula-agrees : (f : ActionFormula) (t : NodeType) → ◌≡◌ {A = TypeFound} (Ok Formula) (Ok t) → Agrees t (formula f)
 formula-agrees f Unused e = cc

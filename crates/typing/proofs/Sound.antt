@@ -20,8 +20,7 @@ use Rattle.policy.specs.declared.Bound.{Bound}
 use Rattle.syntax.specs.Nodes.{node_at, node_of}
 use Rattle.syntax.specs.Formed.{PartsBelow, Formed}
 use Rattle.syntax.specs.Types.{TypeFound, type_at, type_from, type_node}
-use Rattle.typing.specs.Typed.{Typings, mistyped, typed, no_types, type_next, unless_mistyped, type_nodes, faulty, sound, judge_last, judge_typed, judge_sheet, TypedAs, used, spare, SoundSheet}
-use Rattle.syntax.specs.declared.Fault.{Fault}
+use Rattle.typing.specs.Typed.{Typings, mistyped, typed, no_types, type_next, unless_mistyped, type_nodes, sound, judge_last, judge_typed, judge_sheet, TypedAs, used, spare, SoundSheet}
 use Rattle.syntax.specs.declared.NodeType.{NodeType}
 use Rattle.syntax.specs.declared.NodeType.TheVariants.{Unused, Formula, Policy}
 use Rattle.syntax.specs.declared.Sheet.{Sheet}

@@ -6,4 +6,4 @@ use Rattle.reached.specs.Parts.{part_sets}
 use Rattle.reached.proofs.reached_from.Given as goal
 
 abbrev pub invariant-loop-n : goal.invariant-loop-n
-invariant-loop-n l = (l.n ≤ l.from) × (spread (part_sets l.through l.nodes) l.set (suc l.n) ≡ reached_set (part_sets l.through l.nodes) l.from)
+invariant-loop-n g l = (l.n ≤ l.from) × (spread (part_sets g.by l.nodes) l.set (suc l.n) ≡ reached_set (part_sets g.by l.nodes) l.from)
