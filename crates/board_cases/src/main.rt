@@ -1,36 +1,10 @@
 // The corpus of calls on a board, made one after the other. Each answer, and the bytes of the board after it, are held to what the corpus expects.
 #![tactic(auto)]
 
-ghost use Rattle.std.specs.Prelude.{◌≡◌, length};
+use base::room;
 
 // The counts: answers by number, and in the last slot the calls after which something is not as expected.
 const DISAGREEMENTS: usize = 256;
-
-fn room_for_counts() -> [u64; 257]
-    ensures { 257 ≡ length result }
-{
-    [0u64; 257]
-}
-
-// Room for a call, with the largest table and more.
-fn room_for_call() -> [u8; 1100]
-    ensures { 1100 ≡ length result }
-{
-    [0u8; 1100]
-}
-
-// The bytes of a board and of its area, which a new board has to zero.
-fn room_for_board() -> [u8; 16]
-    ensures { 16 ≡ length result }
-{
-    [7u8; 16]
-}
-
-fn room_for_area() -> [u8; 8256]
-    ensures { 8256 ≡ length result }
-{
-    [7u8; 8256]
-}
 
 // A byte written by hand, as no call does. Answers 0, or 99 where it lies outside.
 fn write_byte(bytes: &mut [u8], at: usize, byte: u8) -> u64 {
@@ -60,13 +34,12 @@ fn call(bytes: &[u8], board: &mut [u8], area: &mut [u8]) -> u64 {
         return 99;
     }
     let length = corpus::lent(corpus::at(bytes, 1) == 1, 8255, area.len());
-    let number = corpus::at(bytes, 2) + 256 * corpus::at(bytes, 3);
     make(
         corpus::at(bytes, 0),
-        number,
+        corpus::number_at(bytes, 2),
         &bytes[4..],
         board,
-        &mut area[0..length],
+        &mut area[..length],
     )
 }
 
@@ -75,62 +48,35 @@ fn as_expected(answer: u64, board: &[u8], expected: &[u8]) -> bool {
     if expected.len() < 4 {
         return false;
     }
-    (answer as usize == corpus::answer_at(expected)) & check::same(board, &expected[4..])
+    answer as usize == corpus::answer_at(expected) && board == &expected[4..]
 }
 
-// Reads the rest of a record of the corpus, behind its name, makes the call and compares.
-fn run_call(rt: &impl Input, board: &mut [u8], area: &mut [u8], counts: &mut [u64]) -> corpus::Ran {
-    let mut stated = room_for_call();
-    let mut expected = corpus::room_for_name();
-    let given = corpus::read_block(rt, &mut stated);
-    let answered = corpus::read_block(rt, &mut expected);
-    let g = given.number;
-    let e = answered.number;
-    if given.whole & answered.whole {
-        let answer = call(&stated[0..g], board, area);
-        corpus::add(counts, (answer % 65536) as usize, 1);
-        return corpus::Ran {
-            whole: true,
-            agreed: as_expected(answer, board, &expected[0..e]),
-        };
-    }
-    corpus::cut_off()
-}
-
-// Reads a record of the corpus, makes the call and compares. Answers whether all of it was there.
-fn run_record(
+// Reads the rest of a record, behind its name, makes the call and compares. Nothing where it was cut off.
+fn run_call(
     rt: &(impl Input + Print),
+    name: &[u8],
     board: &mut [u8],
     area: &mut [u8],
     counts: &mut [u64],
-) -> bool {
-    let mut name = corpus::room_for_name();
-    let named = corpus::read_block(rt, &mut name);
-    let n = named.number;
-    let ran = run_call(rt, board, area, counts);
-    corpus::settle(rt, counts, DISAGREEMENTS, named.whole, ran, &name[0..n])
+) -> Option<()> {
+    let mut call_room = room::<u8, 1100>(0);
+    let mut expected_room = room::<u8, 64>(0);
+    let stated = corpus::read_block(rt, &mut call_room)?;
+    let expected = corpus::read_block(rt, &mut expected_room)?;
+    let answer = call(stated, board, area);
+    corpus::add(counts, (answer % 65536) as usize, 1);
+    let agreed = as_expected(answer, board, expected);
+    corpus::settle(rt, counts, DISAGREEMENTS, agreed, name);
+    Some(())
 }
 
-// Runs the records.
-fn run(rt: &(impl Input + Print), counts: &mut [u64]) -> corpus::Progress {
-    let mut board = room_for_board();
-    let mut area = room_for_area();
-    let mut at = corpus::begin(rt);
-    while 0 < at.left {
-        at = corpus::behind(at, run_record(rt, &mut board, &mut area, counts));
-    }
-    at
-}
-
+// The bytes of the board and of its area are not zero before the first call: a new board has to zero them.
 fn main(rt: HostRuntime) {
-    let mut counts = room_for_counts();
-    let at = run(&rt, &mut counts);
-    standard_streams::write_all(&rt, b"calls ");
-    standard_streams::print_decimal(&rt, at.done as u64);
-    standard_streams::write_all(&rt, b"\nanswers");
-    corpus::show(&rt, &counts[0..256]);
-    standard_streams::write_all(&rt, b"\ndisagreements ");
-    standard_streams::print_decimal(&rt, counts[256]);
-    standard_streams::write_all(&rt, b"\n");
-    corpus::end(&rt, at);
+    let mut board = room::<u8, 16>(7);
+    let mut area = room::<u8, 8256>(7);
+    let mut counts = room::<u64, 257>(0);
+    let at = corpus::run(&rt, &mut counts, |name, counts| {
+        run_call(&rt, name, &mut board, &mut area, counts)
+    });
+    corpus::report(&rt, b"calls ", at, &counts[..256], counts[256]);
 }

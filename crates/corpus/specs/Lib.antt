@@ -1,4 +1,3 @@
 -- What the contracts of the corpus cite.
 -- Assumes nothing.
 pub mod Numbers
-pub mod Progress

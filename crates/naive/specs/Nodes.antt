@@ -2,15 +2,27 @@
 -- Assumes nothing.
 use Rattle.std.specs.Prelude.{◌≡◌, List, ℕ, ◌+◌, ◌*◌, ◌%◌, ◌≤◌, ◌<◌, get_or}
 use Rattle.naive.specs.Bytes.{sheet_word}
+use Rattle.naive.specs.declared.Areas.{Areas}
+use Rattle.naive.specs.declared.Check.{Check}
+use Rattle.naive.specs.declared.Check.TheVariants.{Total, Counts, Lists, Kind, Fields, Types, Bound}
 
--- Where the areas are: no refusal, and the counts and places that the header states, or 1, 2 or 3, with all else 0.
-pub record Located (bytes : List ℕ) (number actions nodes actions-at nodes-at : ℕ) : Type 0 where
-  pub refusal : number < 4
-  pub few-actions : actions ≤ 16
-  pub few-nodes : nodes ≤ 64
-  pub counts : number ≡ 0 → (actions ≡ sheet_word bytes 0) × (nodes ≡ sheet_word bytes 2)
-  pub places : number ≡ 0 → (actions-at ≡ sheet_word bytes 4) × (nodes-at ≡ sheet_word bytes 6)
-  pub none : 0 < number → (actions ≡ 0) × (nodes ≡ 0)
+-- The number of the refusal of a check.
+abbrev pub check_number : Check → ℕ
+check_number Total = 1
+check_number Counts = 2
+check_number Lists = 3
+check_number Kind = 4
+check_number Fields = 5
+check_number Types = 6
+check_number Bound = 7
+
+-- Where the lists are: the counts and places that the header states.
+pub record Located (bytes : List ℕ) (areas : Areas) : Type 0 where
+  pub few-actions : areas.actions ≤ 16
+  pub some-nodes : 1 ≤ areas.nodes
+  pub few-nodes : areas.nodes ≤ 64
+  pub counts : (areas.actions ≡ sheet_word bytes 0) × (areas.nodes ≡ sheet_word bytes 2)
+  pub places : (areas.actions_at ≡ sheet_word bytes 4) × (areas.nodes_at ≡ sheet_word bytes 6)
 
 -- The first byte of node n.
 abbrev pub node_place : (nodes-at n : ℕ) → ℕ
@@ -21,11 +33,3 @@ pub record FieldsAt (bytes : List ℕ) (from kind argument a b c : ℕ) : Type 0
   pub kinds : (kind ≡ get_or bytes from 0) × (kind < 256)
   pub arguments : (argument ≡ get_or bytes (from + 1) 0) × (argument < 256)
   pub parts : (a ≡ get_or bytes (from + 2) 0) × (b ≡ get_or bytes (from + 3) 0) × (c ≡ get_or bytes (from + 4) 0)
-
--- A refusal of 1 to 7 with its spot and no mode, or none with no spot and a mode.
-pub record FindsRefusal (number spot mode : ℕ) : Type 0 where
-  pub refusal : number < 8
-  pub node : spot < 64
-  pub modes : mode ≤ 2
-  pub refused : 0 < number → mode ≡ 0
-  pub sound : number ≡ 0 → (spot ≡ 0) × (0 < mode)

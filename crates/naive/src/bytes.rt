@@ -1,19 +1,12 @@
-// Bytes as numbers. Nothing is read or written past the end.
-ghost use Rattle.std.specs.Prelude.{◌≡◌, ◌<◌, ◌%◌, get_or, set};
+// Bytes as numbers, and arrays. Nothing is read or written past the end.
+ghost use Rattle.std.specs.Prelude.{◌≡◌, ◌<◌, ◌%◌, get_or, length, set};
 ghost use Rattle.naive.specs.Bytes.{sheet_word};
-
-// A byte as a number.
-fn wide(byte: u8) -> usize
-    ensures { (result ≡ byte) × (result < 256) }
-{
-    byte as usize
-}
 
 // Byte i, or 0 past the end.
 pub fn at(bytes: &[u8], i: usize) -> usize
     ensures { (result ≡ get_or bytes.now i 0) × (result < 256) }
 {
-    if i < bytes.len() { wide(bytes[i]) } else { 0 }
+    usize::from(bytes.get(i).copied().unwrap_or(0))
 }
 
 // The 16-bit number at i, low byte first.
@@ -34,4 +27,11 @@ pub fn put(bytes: &mut [u8], i: usize, number: usize)
     if i < bytes.len() {
         bytes[i] = (number % 256) as u8;
     }
+}
+
+// An array of one value, of which a proof knows only the length.
+pub fn room<T: Copy, const N: usize>(value: T) -> [T; N]
+    ensures { length result ≡ N }
+{
+    [value; N]
 }

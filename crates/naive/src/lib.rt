@@ -7,18 +7,44 @@ mod checks;
 mod meanings;
 mod nodes;
 mod sequences;
+mod truths;
 mod types;
 mod verdicts;
 
-pub use bytes::{at, put};
+pub use bytes::{at, put, room};
 pub use checks::{find_areas, judge};
 pub use nodes::node_at;
 pub use verdicts::compare;
 
-// Where a sheet's areas are. The number is 0, or the refusal 1, 2 or 3, with all else 0.
+// A policy's mode.
+#[derive(Clone, Copy, PartialEq, Eq)]
+pub enum Mode {
+    Enforced,
+    Watched,
+}
+
+// The checks of a sheet, 1 to 7.
+#[derive(Clone, Copy, PartialEq, Eq)]
+pub enum Check {
+    Total,
+    Counts,
+    Lists,
+    Kind,
+    Fields,
+    Types,
+    Bound,
+}
+
+// The first check that a sheet fails, and at which node, or 0.
+#[derive(Clone, Copy)]
+pub struct Refusal {
+    pub check: Check,
+    pub node: usize,
+}
+
+// Where a sheet's lists are.
 #[derive(Clone, Copy)]
 pub struct Areas {
-    pub number: usize,
     pub actions: usize,
     pub nodes: usize,
     pub actions_at: usize,
@@ -35,20 +61,46 @@ pub struct Fields {
     pub c: usize,
 }
 
-// A node's type in one number: 4 * bound + mode, where the mode is 0 for a formula, 1 enforced, 2 watched, and the bound may be UNBOUNDED. The
-// number is 0, or the refusal 6 or 7.
+// A formula of actions. Its parts are formulas, by their numbers.
 #[derive(Clone, Copy)]
-pub struct Type {
-    pub number: usize,
-    pub code: usize,
+pub enum Formula {
+    True,
+    False,
+    Proposition(usize),
+    Not(usize),
+    And(usize, usize),
+    Or(usize, usize),
 }
 
-// No refusal (0) and the policy's mode, or a refusal of 1 to 7 and its spot.
+// A policy. Its parts are the numbers of nodes; before and after have a mode of their own.
 #[derive(Clone, Copy)]
-pub struct Finding {
-    pub number: usize,
-    pub spot: usize,
-    pub mode: usize,
+pub enum Policy {
+    Now(usize),
+    Holds(usize),
+    Count(usize),
+    Not(usize),
+    And(usize, usize),
+    Or(usize, usize),
+    Eventually(usize),
+    Always(usize),
+    Before(Mode, usize, usize),
+    After(Mode, usize, usize),
+    Fulfilling(usize, usize, usize, usize),
+    Ignoring(usize, usize),
+}
+
+#[derive(Clone, Copy)]
+pub enum Node {
+    Formula(Formula),
+    Policy(Policy),
+}
+
+// A sheet that passes checks 1 to 7: where its lists are, its nodes, and the mode of its policy.
+#[derive(Clone, Copy)]
+pub struct Sheet {
+    pub areas: Areas,
+    pub nodes: [Node; 64],
+    pub mode: Mode,
 }
 
 // How many sequences were judged, and after how many of them a table's verdict is not the policy's.
@@ -57,6 +109,3 @@ pub struct Compared {
     pub sequences: usize,
     pub differing: usize,
 }
-
-// The bound of a policy that has none.
-pub const UNBOUNDED: usize = 1000000;

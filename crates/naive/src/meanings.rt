@@ -1,253 +1,151 @@
-// The meanings of docs/FORMATS.md, "Policies", on sequences. Truths are kept in a lent area of 64 times 2,048 bytes: at 2,048 * n + s stands 1 where node n is
-// satisfied by the sequence numbered s, or, for an action formula, by the action s, and else 0. A node's truths are found from those of its
-// parts, which have lower numbers, and on sequences that are no longer. Only used nodes get theirs; their parts are used too.
-ghost use Rattle.std.specs.Prelude.{◌≡◌, cond, ◌+◌, ◌≤◌, length};
-ghost use Rattle.naive.specs.Sequences.{number_to};
-ghost use Rattle.naive.specs.Truths.{Truths, truth_at, kept};
+// The meanings of docs/FORMATS.md, "Policies", on sequences. A node's truths are found from those of its parts, which have lower numbers, and on
+// sequences that are no longer. Only used nodes get theirs; their parts are used too.
+ghost use Rattle.std.specs.Prelude.{◌≤◌, length, IfSome};
 
-use crate::bytes::{at, number_at, put};
-use crate::nodes::{is_marked, mark_used, node_at, room_for_marks};
-use crate::sequences::{judged, number_of, spell, step};
-use crate::{Areas, Fields};
+use crate::bytes::{number_at, room};
+use crate::nodes::used_of;
+use crate::sequences::{judged, spell, step};
+use crate::truths::{Truths, keep};
+use crate::{Formula, Mode, Node, Policy, Sheet};
 
-// Whether node n is satisfied by the sequence, or the action, numbered s.
-fn truth(truths: &[u8], n: usize, s: usize) -> bool
-    ensures { result ≡ truth_at truths.now n s }
-{
-    if 63 < n {
-        return false;
-    }
-    if 2047 < s {
-        return false;
-    }
-    at(truths, 2048 * n + s) == 1
-}
-
-// A truth as a number.
-fn bit(holds: bool) -> usize
-    ensures { (result ≡ cond holds 1 0) × (result ≤ 1) }
-{
-    if holds { 1 } else { 0 }
-}
-
-// Keeps a truth.
-fn keep(truths: &mut [u8], n: usize, s: usize, holds: bool)
-    requires { Truths truths.old }
-    ensures { Truths truths.new × (truths.new ≡ kept truths.old n s holds) }
-{
-    if 63 < n {
-        return;
-    }
-    if 2047 < s {
-        return;
-    }
-    put(truths, 2048 * n + s, bit(holds));
-}
-
-// Whether a sequence satisfies the part n.
-fn satisfies(truths: &[u8], actions: usize, n: usize, sequence: &[u8]) -> bool
-    ensures { result ≡ truth_at truths.now n (number_to sequence.now actions (length sequence.now)) }
-{
-    truth(truths, n, number_of(sequence, actions))
-}
-
-// Whether n is satisfied by what stands before a cut of the sequence, or by what stands behind it.
-fn part_satisfies(
-    truths: &[u8],
-    actions: usize,
-    n: usize,
-    sequence: &[u8],
-    cut: usize,
-    before: bool,
-) -> bool
-    requires { cut ≤ length sequence.now }
-{
-    if before {
-        return satisfies(truths, actions, n, &sequence[0..cut]);
-    }
-    satisfies(truths, actions, n, &sequence[cut..])
-}
-
-// The first cut at which n judges what stands before it, or behind it, so. One more than the length where there is none.
-fn first_cut(
-    truths: &[u8],
-    actions: usize,
-    n: usize,
-    sequence: &[u8],
-    before: bool,
-    so: bool,
-) -> usize
-    ensures { result ≤ length sequence.now + 1 }
-{
-    let mut cut = 0;
-    while cut <= sequence.len() {
-        if part_satisfies(truths, actions, n, sequence, cut, before) == so {
-            return cut;
+impl Truths<'_> {
+    // The length of the first fulfilment of n: the shortest prefix that satisfies it.
+    fn first_fulfilment(self, n: usize, sequence: &[u8]) -> Option<usize>
+        ensures { IfSome result (λ l. l ≤ length sequence.now) }
+    {
+        for l in 0..=sequence.len() {
+            if self.satisfies(n, &sequence[..l]) {
+                return Some(l);
+            }
         }
-        cut += 1;
+        None
     }
-    cut
-}
 
-// The length of the first fulfilment of n: the shortest prefix that satisfies it. One more than the length where there is none.
-fn first_fulfilment(truths: &[u8], actions: usize, n: usize, sequence: &[u8]) -> usize
-    ensures { result ≤ length sequence.now + 1 }
-{
-    first_cut(truths, actions, n, sequence, true, true)
-}
-
-// Whether some suffix, the whole and the empty one among them, is judged so by n.
-fn some_suffix(truths: &[u8], actions: usize, n: usize, sequence: &[u8], so: bool) -> bool {
-    first_cut(truths, actions, n, sequence, false, so) <= sequence.len()
-}
-
-// Before: the prefix up to and with the first fulfilment of a, or the whole, satisfies b.
-fn before(truths: &[u8], actions: usize, a: usize, b: usize, sequence: &[u8]) -> bool {
-    let l = first_fulfilment(truths, actions, a, sequence);
-    if l <= sequence.len() {
-        return satisfies(truths, actions, b, &sequence[0..l]);
+    // Whether some suffix, the whole and the empty one among them, is judged so by n.
+    fn some_suffix(self, n: usize, sequence: &[u8], so: bool) -> bool {
+        for cut in 0..=sequence.len() {
+            if self.satisfies(n, &sequence[cut..]) == so {
+                return true;
+            }
+        }
+        false
     }
-    satisfies(truths, actions, b, sequence)
-}
 
-// After: what follows the first fulfilment of a satisfies b; `none` where a is not fulfilled.
-fn after(truths: &[u8], actions: usize, a: usize, b: usize, sequence: &[u8], none: bool) -> bool {
-    let l = first_fulfilment(truths, actions, a, sequence);
-    if l <= sequence.len() {
-        return satisfies(truths, actions, b, &sequence[l..]);
-    }
-    none
-}
-
-// Fulfilling: a first fulfilled within k actions, and then b; else, once k actions have passed, c; else satisfied.
-fn fulfilling(truths: &[u8], actions: usize, node: Fields, sequence: &[u8]) -> bool {
-    let k = node.argument;
-    let l = first_fulfilment(truths, actions, node.a, sequence);
-    if l <= sequence.len() {
-        if l <= k {
-            return satisfies(truths, actions, node.b, &sequence[l..]);
+    // Before: the prefix up to and with the first fulfilment of a, or the whole, satisfies b.
+    fn before(self, a: usize, b: usize, sequence: &[u8]) -> bool {
+        match self.first_fulfilment(a, sequence) {
+            Some(l) => self.satisfies(b, &sequence[..l]),
+            None => self.satisfies(b, sequence),
         }
     }
-    if k <= sequence.len() {
-        return satisfies(truths, actions, node.c, &sequence[k..]);
+
+    // After: what follows the first fulfilment of a satisfies b; `none` where a is not fulfilled.
+    fn after(self, a: usize, b: usize, sequence: &[u8], none: bool) -> bool {
+        match self.first_fulfilment(a, sequence) {
+            Some(l) => self.satisfies(b, &sequence[l..]),
+            None => none,
+        }
     }
-    true
-}
 
-// The sequence s and then an action, unless this satisfies the formula n.
-fn step_unless(truths: &[u8], actions: usize, n: usize, s: usize, action: usize) -> usize {
-    if truth(truths, n, action) {
-        return s;
+    // Fulfilling: a first fulfilled within k actions, and then b; else, once k actions have passed, c; else satisfied.
+    fn fulfilling(self, k: usize, a: usize, b: usize, c: usize, sequence: &[u8]) -> bool {
+        match self.first_fulfilment(a, sequence) {
+            Some(l) if l <= k => self.satisfies(b, &sequence[l..]),
+            _ if k <= sequence.len() => self.satisfies(c, &sequence[k..]),
+            _ => true,
+        }
     }
-    step(s, action, actions)
-}
 
-// Ignoring: the sequence without the actions that satisfy formula a satisfies b.
-fn ignoring(truths: &[u8], actions: usize, a: usize, b: usize, sequence: &[u8]) -> bool {
-    let mut s = 0;
-    let mut i = 0;
-    while i < sequence.len() {
-        s = step_unless(truths, actions, a, s, at(sequence, i));
-        i += 1;
+    // Ignoring: the sequence without the actions that satisfy formula a satisfies b.
+    fn ignoring(self, a: usize, b: usize, sequence: &[u8]) -> bool {
+        let mut s = 0;
+        for action in sequence {
+            let action = usize::from(*action);
+            if !self.holds(a, action) {
+                s = step(s, action, self.actions);
+            }
+        }
+        self.holds(b, s)
     }
-    truth(truths, b, s)
-}
 
-// Whether a sequence satisfies a policy node.
-fn meaning(truths: &[u8], actions: usize, node: Fields, sequence: &[u8]) -> bool {
-    let a = node.a;
-    let b = node.b;
-    let kind = node.kind;
-    match kind {
-        10 => (0 < sequence.len()) & truth(truths, a, at(sequence, 0)),
-        11 => (sequence.len() == 0) | truth(truths, a, at(sequence, 0)),
-        12 => node.argument <= sequence.len(),
-        13 => !satisfies(truths, actions, a, sequence),
-        14 => satisfies(truths, actions, a, sequence) & satisfies(truths, actions, b, sequence),
-        15 => satisfies(truths, actions, a, sequence) | satisfies(truths, actions, b, sequence),
-        16 => some_suffix(truths, actions, a, sequence, true),
-        17 => !some_suffix(truths, actions, a, sequence, false),
-        18 | 19 => before(truths, actions, a, b, sequence),
-        20 => after(truths, actions, a, b, sequence, false),
-        21 => after(truths, actions, a, b, sequence, true),
-        22 => fulfilling(truths, actions, node, sequence),
-        23 => ignoring(truths, actions, a, b, sequence),
-        _ => false,
+    // Whether the first action of a sequence satisfies formula a; `none` where there is none.
+    fn first(self, a: usize, sequence: &[u8], none: bool) -> bool {
+        match sequence.first() {
+            Some(action) => self.holds(a, usize::from(*action)),
+            None => none,
+        }
+    }
+
+    // Whether a sequence satisfies a policy.
+    fn meaning(self, policy: Policy, sequence: &[u8]) -> bool {
+        match policy {
+            Policy::Now(a) => self.first(a, sequence, false),
+            Policy::Holds(a) => self.first(a, sequence, true),
+            Policy::Count(k) => k <= sequence.len(),
+            Policy::Not(a) => !self.satisfies(a, sequence),
+            Policy::And(a, b) => self.satisfies(a, sequence) && self.satisfies(b, sequence),
+            Policy::Or(a, b) => self.satisfies(a, sequence) || self.satisfies(b, sequence),
+            Policy::Eventually(a) => self.some_suffix(a, sequence, true),
+            Policy::Always(a) => !self.some_suffix(a, sequence, false),
+            Policy::Before(_, a, b) => self.before(a, b, sequence),
+            Policy::After(mode, a, b) => self.after(a, b, sequence, mode == Mode::Enforced),
+            Policy::Fulfilling(k, a, b, c) => self.fulfilling(k, a, b, c, sequence),
+            Policy::Ignoring(a, b) => self.ignoring(a, b, sequence),
+        }
+    }
+
+    // Whether an action with these propositions satisfies a formula.
+    fn formula(self, formula: Formula, action: usize, propositions: usize) -> bool {
+        match formula {
+            Formula::True => true,
+            Formula::False => false,
+            Formula::Proposition(p) => (propositions >> (p % 16)) % 2 == 1,
+            Formula::Not(a) => !self.holds(a, action),
+            Formula::And(a, b) => self.holds(a, action) && self.holds(b, action),
+            Formula::Or(a, b) => self.holds(a, action) || self.holds(b, action),
+        }
     }
 }
 
-// Whether an action with these propositions satisfies a formula node.
-fn formula(truths: &[u8], node: Fields, action: usize, set: usize) -> bool {
-    let kind = node.kind;
-    match kind {
-        1 => true,
-        3 => (set >> (node.argument % 16)) % 2 == 1,
-        4 => !truth(truths, node.a, action),
-        5 => truth(truths, node.a, action) & truth(truths, node.b, action),
-        6 => truth(truths, node.a, action) | truth(truths, node.b, action),
-        _ => false,
+// The truths of a formula, node n, on each action.
+fn evaluate_formula(bytes: &[u8], sheet: &Sheet, formula: Formula, n: usize, truths: &mut [bool]) {
+    let actions = sheet.areas.actions;
+    let from = sheet.areas.actions_at % 65536;
+    for action in 0..actions {
+        let propositions = number_at(bytes, from + 2 * (action % 65536));
+        let holds = Truths {
+            kept: truths,
+            actions,
+        }
+        .formula(formula, action, propositions);
+        keep(truths, n, action, holds);
     }
 }
 
-// Whether a node is satisfied by the action, or by the sequence, numbered s. The sequence is spelled out in `letters`.
-fn satisfied(
-    bytes: &[u8],
-    laid: Areas,
-    node: Fields,
-    s: usize,
-    truths: &[u8],
-    letters: &mut [u8],
-) -> bool {
-    if node.kind < 10 {
-        let set = number_at(bytes, laid.actions_at % 65536 + 2 * (s % 65536));
-        return formula(truths, node, s, set);
-    }
-    let from = spell(s, laid.actions, letters);
-    meaning(truths, laid.actions, node, &letters[from..])
-}
-
-// How many actions, or sequences, a node is judged on.
-fn judged_on(kind: usize, actions: usize) -> usize {
-    if kind < 10 { actions } else { judged(actions) }
-}
-
-// Room for the longest sequence that is judged.
-pub fn room_for_letters() -> [u8; 130]
-    ensures { 130 ≡ length result }
-{
-    [0u8; 130]
-}
-
-// The truths of node n, if it is used.
-fn evaluate_node(bytes: &[u8], laid: Areas, n: usize, used: &[u8], truths: &mut [u8])
-    requires { Truths truths.old }
-    ensures { Truths truths.new }
-{
-    if !is_marked(used, n) {
-        return;
-    }
-    let mut letters = room_for_letters();
-    let node = node_at(bytes, laid.nodes_at, n);
-    let count = judged_on(node.kind, laid.actions);
-    let mut s = 0;
-    while s < count {
-        let holds = satisfied(bytes, laid, node, s, truths, &mut letters);
+// The truths of a policy, node n, on each sequence that is judged.
+fn evaluate_policy(actions: usize, policy: Policy, n: usize, truths: &mut [bool]) {
+    let mut letters = room::<u8, 130>(0);
+    for s in 0..judged(actions) {
+        let sequence = spell(s, actions, &mut letters);
+        let holds = Truths {
+            kept: truths,
+            actions,
+        }
+        .meaning(policy, sequence);
         keep(truths, n, s, holds);
-        s += 1;
     }
 }
 
-// The truths of every used node of a sound sheet, in their order.
-pub fn evaluate(bytes: &[u8], laid: Areas, truths: &mut [u8])
-    requires { Truths truths.old }
-    ensures { Truths truths.new }
-{
-    let nodes = laid.nodes;
-    let mut used = room_for_marks();
-    mark_used(bytes, nodes, laid.nodes_at, &mut used);
-    let mut n = 0;
-    while n < nodes {
-        evaluate_node(bytes, laid, n, &used, truths);
-        n += 1;
+// The truths of every used node of a sheet, in their order.
+pub fn evaluate(bytes: &[u8], sheet: &Sheet, truths: &mut [bool]) {
+    let nodes = &sheet.nodes[..sheet.areas.nodes.min(64)];
+    let used = used_of(nodes);
+    for n in 0..nodes.len() {
+        if used[n] {
+            match nodes[n] {
+                Node::Formula(formula) => evaluate_formula(bytes, sheet, formula, n, truths),
+                Node::Policy(policy) => evaluate_policy(sheet.areas.actions, policy, n, truths),
+            }
+        }
     }
 }

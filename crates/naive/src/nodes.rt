@@ -1,10 +1,10 @@
-// The nodes of a sheet: their fields, how many parts they have, and which of them the policy uses.
-ghost use Rattle.std.specs.Prelude.{◌≡◌, ◌-◌, ◌<◌, eqb, length, get_or};
+// The nodes of a sheet: their fields, checks 4 and 5, and which of them the policy uses.
+ghost use Rattle.std.specs.Prelude.{◌≡◌, ◌-◌, ◌<◌, length, get_or, true, false};
 ghost use Rattle.naive.specs.Nodes.{node_place, FieldsAt};
-ghost use Rattle.naive.specs.Truths.{Truths, MoreMarked, Marks};
+ghost use Rattle.naive.specs.Marks.{MoreMarked};
 
-use crate::Fields;
-use crate::bytes::{at, put};
+use crate::bytes::{at, room};
+use crate::{Check, Fields, Formula, Mode, Node, Policy};
 
 // The fields of node n of a node list.
 pub fn node_at(bytes: &[u8], nodes_at: usize, n: usize) -> Fields
@@ -20,87 +20,109 @@ pub fn node_at(bytes: &[u8], nodes_at: usize, n: usize) -> Fields
     }
 }
 
-// How many parts a kind has; 4 for an unknown kind.
-pub fn parts_of(kind: usize) -> usize
-    ensures { result < 5 }
-{
-    match kind {
-        1 | 2 | 3 | 12 => 0,
-        4 | 10 | 11 | 13 | 16 | 17 => 1,
-        5 | 6 | 14 | 15 | 18 | 19 | 20 | 21 | 23 => 2,
-        22 => 3,
-        _ => 4,
+// Whether the fields of node n fit a kind with so many parts: parts are lower than the node, and a field that the kind does not use is 0.
+fn parts_fit(fields: Fields, parts: usize, n: usize) -> bool {
+    let fits = |used: bool, part: usize| if used { part < n } else { part == 0 };
+    fits(0 < parts, fields.a) && fits(1 < parts, fields.b) && fits(2 < parts, fields.c)
+}
+
+// Checks 4 and 5 of node n.
+pub fn read_node(fields: Fields, n: usize) -> Result<Node, Check> {
+    let Fields {
+        kind,
+        argument,
+        a,
+        b,
+        c,
+    } = fields;
+    let (node, parts) = match kind {
+        1 => (Node::Formula(Formula::True), 0),
+        2 => (Node::Formula(Formula::False), 0),
+        3 => (Node::Formula(Formula::Proposition(argument)), 0),
+        4 => (Node::Formula(Formula::Not(a)), 1),
+        5 => (Node::Formula(Formula::And(a, b)), 2),
+        6 => (Node::Formula(Formula::Or(a, b)), 2),
+        10 => (Node::Policy(Policy::Now(a)), 1),
+        11 => (Node::Policy(Policy::Holds(a)), 1),
+        12 => (Node::Policy(Policy::Count(argument)), 0),
+        13 => (Node::Policy(Policy::Not(a)), 1),
+        14 => (Node::Policy(Policy::And(a, b)), 2),
+        15 => (Node::Policy(Policy::Or(a, b)), 2),
+        16 => (Node::Policy(Policy::Eventually(a)), 1),
+        17 => (Node::Policy(Policy::Always(a)), 1),
+        18 => (Node::Policy(Policy::Before(Mode::Watched, a, b)), 2),
+        19 => (Node::Policy(Policy::Before(Mode::Enforced, a, b)), 2),
+        20 => (Node::Policy(Policy::After(Mode::Watched, a, b)), 2),
+        21 => (Node::Policy(Policy::After(Mode::Enforced, a, b)), 2),
+        22 => (Node::Policy(Policy::Fulfilling(argument, a, b, c)), 3),
+        23 => (Node::Policy(Policy::Ignoring(a, b)), 2),
+        _ => return Err(Check::Kind),
+    };
+    let argument_fits = match node {
+        Node::Formula(Formula::Proposition(_)) => argument < 16,
+        Node::Policy(Policy::Count(_) | Policy::Fulfilling(..)) => 0 < argument && argument <= 60,
+        _ => argument == 0,
+    };
+    if argument_fits && parts_fit(fields, parts, n) {
+        Ok(node)
+    } else {
+        Err(Check::Fields)
     }
 }
 
-// The number of the last of so many nodes.
-pub fn last_node(nodes: usize) -> usize
-    ensures { result ≡ nodes - 1 }
+// Marks a node as used.
+fn mark(used: &mut [bool], n: usize)
+    ensures { MoreMarked used.old used.new }
 {
-    if nodes == 0 { 0 } else { nodes - 1 }
-}
-
-// Room for a mark for each node: 1 where it is known to be used, else 0.
-pub fn room_for_marks() -> [u8; 64]
-    ensures { (64 ≡ length result) × Truths result }
-{
-    [0u8; 64]
-}
-
-// Whether node n is marked.
-pub fn is_marked(marks: &[u8], n: usize) -> bool
-    ensures { result ≡ eqb (get_or marks.now n 0) 1 }
-{
-    at(marks, n) == 1
-}
-
-// Marks a part, where the kind has it.
-fn mark(marks: &mut [u8], has: bool, part: usize)
-    requires { Truths marks.old }
-    ensures { MoreMarked marks.old marks.new }
-{
-    if has {
-        put(marks, part, 1);
+    if n < used.len() {
+        used[n] = true;
     }
 }
 
-// Marks the parts of node n, if it is marked itself.
-fn mark_parts(bytes: &[u8], nodes_at: usize, n: usize, marks: &mut [u8])
-    requires { Truths marks.old }
-    ensures { MoreMarked marks.old marks.new }
+// Marks the parts of a node.
+fn mark_parts(node: Node, used: &mut [bool])
+    ensures { MoreMarked used.old used.new }
 {
-    if !is_marked(marks, n) {
-        return;
+    match node {
+        Node::Formula(Formula::True | Formula::False | Formula::Proposition(_)) => {}
+        Node::Policy(Policy::Count(_)) => {}
+        Node::Formula(Formula::Not(a)) => mark(used, a),
+        Node::Policy(Policy::Now(a) | Policy::Holds(a) | Policy::Not(a)) => mark(used, a),
+        Node::Policy(Policy::Eventually(a) | Policy::Always(a)) => mark(used, a),
+        Node::Formula(Formula::And(a, b) | Formula::Or(a, b)) => {
+            mark(used, a);
+            mark(used, b);
+        }
+        Node::Policy(Policy::And(a, b) | Policy::Or(a, b) | Policy::Ignoring(a, b)) => {
+            mark(used, a);
+            mark(used, b);
+        }
+        Node::Policy(Policy::Before(_, a, b) | Policy::After(_, a, b)) => {
+            mark(used, a);
+            mark(used, b);
+        }
+        Node::Policy(Policy::Fulfilling(_, a, b, c)) => {
+            mark(used, a);
+            mark(used, b);
+            mark(used, c);
+        }
     }
-    let node = node_at(bytes, nodes_at, n);
-    let parts = parts_of(node.kind);
-    mark(marks, 0 < parts, node.a);
-    mark(marks, 1 < parts, node.b);
-    mark(marks, 2 < parts, node.c);
 }
 
-// Marks the parts of every node that is marked.
-fn mark_once(bytes: &[u8], nodes: usize, nodes_at: usize, marks: &mut [u8])
-    requires { Truths marks.old }
-    ensures { MoreMarked marks.old marks.new }
+// Which nodes are used: the last, and the parts of used ones, which have lower numbers.
+pub fn used_of(nodes: &[Node]) -> [bool; 64]
+    requires { length nodes.now < 65 }
+    ensures { 0 < length nodes.now → get_or result (length nodes.now - 1) false ≡ true }
 {
-    let mut n = 0;
-    while n < nodes {
-        mark_parts(bytes, nodes_at, n, marks);
-        n += 1;
+    let mut used = room::<bool, 64>(false);
+    if nodes.len() == 0 {
+        return used;
     }
-}
-
-// Marks the nodes that are used: the last, and the parts of used ones. No chain of parts has more nodes than there are, so in as many turns all
-// are marked.
-pub fn mark_used(bytes: &[u8], nodes: usize, nodes_at: usize, marks: &mut [u8])
-    requires { Truths marks.old }
-    ensures { Marks nodes marks.new }
-{
-    put(marks, last_node(nodes), 1);
-    let mut turn = 0;
-    while turn < nodes {
-        mark_once(bytes, nodes, nodes_at, marks);
-        turn += 1;
+    used[nodes.len() - 1] = true;
+    for n in (0..nodes.len()).rev() {
+        if used[n] {
+            mark_parts(nodes[n], &mut used);
+        }
     }
+    used
 }

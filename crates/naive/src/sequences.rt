@@ -1,9 +1,7 @@
 // Sequences of actions and their numbers: the empty one is 0, and s followed by action i is actions * s + i + 1. So sequences are numbered by
 // length, and those of one length in the order of a dictionary. Judged are all up to a length, at most 2,048 of them; 2,048 stands for any other.
-ghost use Rattle.std.specs.Prelude.{◌≡◌, ◌-◌, ◌*◌, ◌%◌, ◌<◌, ◌≤◌, length};
+ghost use Rattle.std.specs.Prelude.{◌≡◌, ◌*◌, ◌%◌, ◌<◌, ◌≤◌, length};
 ghost use Rattle.naive.specs.Sequences.{stepped, number_to};
-
-use crate::bytes::{at, put};
 
 // How many sequences are judged: all of up to 130, 10, 6, 5, 4, 4 actions for 1 to 6 actions in the list, of up to 3 for 7 to 12, and of up to 2.
 pub fn judged(actions: usize) -> usize
@@ -44,8 +42,7 @@ pub fn step(s: usize, action: usize, actions: usize) -> usize
     if 2047 < s {
         return 2048;
     }
-    let next = times(actions, s) + action % 256 + 1;
-    if next < 2048 { next } else { 2048 }
+    (times(actions, s) + action % 256 + 1).min(2048)
 }
 
 // The number of a sequence that is spelled out.
@@ -53,51 +50,20 @@ pub fn number_of(letters: &[u8], actions: usize) -> usize
     ensures { (result ≡ number_to letters.now actions (length letters.now)) × (result ≤ 2048) }
 {
     let mut s = 0;
-    let mut i = 0;
-    while i < letters.len() {
-        s = step(s, at(letters, i), actions);
-        i += 1;
+    for letter in letters {
+        s = step(s, usize::from(*letter), actions);
     }
     s
 }
 
-// The sequence without its last action.
-fn parent(s: usize, actions: usize) -> usize
-    ensures { result ≤ s - 1 }
-{
-    if s == 0 {
-        return 0;
-    }
-    if actions == 0 {
-        return 0;
-    }
-    (s - 1) / actions
-}
-
-// The last action of a sequence.
-fn last(s: usize, actions: usize) -> usize {
-    if s == 0 {
-        return 0;
-    }
-    if actions == 0 {
-        return 0;
-    }
-    (s - 1) % actions
-}
-
-// Writes the actions of a sequence to the end of `letters`, as far as they fit, and answers where they begin.
-pub fn spell(s: usize, actions: usize, letters: &mut [u8]) -> usize
-    ensures { result ≤ length letters.new }
-{
+// Writes the actions of a sequence to the end of `letters`, as far as they fit, and answers them.
+pub fn spell<'a>(s: usize, actions: usize, letters: &'a mut [u8]) -> &'a [u8] {
     let mut rest = s;
     let mut from = letters.len();
-    while 0 < rest {
-        if from == 0 {
-            return 0;
-        }
+    while 0 < rest && 0 < from && 0 < actions {
         from -= 1;
-        put(letters, from, last(rest, actions));
-        rest = parent(rest, actions);
+        letters[from] = ((rest - 1) % actions % 256) as u8;
+        rest = (rest - 1) / actions;
     }
-    from
+    &letters[from..]
 }

@@ -1,11 +1,11 @@
 // The language as it is written down: which words may stand where something of a category is to come, with the categories of their parts.
-ghost use Rattle.std.specs.Prelude.{◌≤◌, ◌<◌};
+ghost use Rattle.std.specs.Prelude.{◌≤◌, ◌<◌, IfSome};
 
 use crate::Fit;
 use naive::at;
 
-// How many lines the language has, which stands for none of them; and the two lines that stand for several words.
-pub const NO_LINE: usize = 27;
+// How many lines the language has, and the two lines that stand for several words.
+const LINES: usize = 27;
 
 const PROPOSITIONS: usize = 25;
 
@@ -14,7 +14,7 @@ const NUMBERS: usize = 26;
 // Byte i of a line of the language. A line has 21: a newline, the category, the word, the categories of its parts, and the kind of its node, 0 for
 // none. No word is that of one of the last two lines, which have blanks in them.
 fn language(line: usize, i: usize) -> usize
-    requires { (line ≤ 27) × (i ≤ 20) }
+    requires { (line < 27) × (i ≤ 20) }
     ensures { result < 256 }
 {
     at(
@@ -52,37 +52,33 @@ K 1 to 60          0",
 
 // The category of part i of the word of a line, or a blank.
 pub fn part(line: usize, i: usize) -> usize
-    requires { (line ≤ 27) × (i < 4) }
+    requires { (line < 27) × (i < 4) }
     ensures { result < 256 }
 {
     language(line, 14 + i)
 }
 
-// 1 for a part that is a node: neither a blank nor a number.
-fn is_node(category: usize) -> usize
-    ensures { result ≤ 1 }
-{
-    if (category == 32) | (category == b'K' as usize) {
-        0
-    } else {
-        1
-    }
+// Whether a part is a node: neither a blank nor a number.
+fn is_node(category: usize) -> bool {
+    category != 32 && category != usize::from(b'K')
 }
 
 // How many nodes a node of a line has as its parts.
-pub fn parts_of(line: usize) -> usize
-    requires { line ≤ 27 }
-    ensures { result ≤ 4 }
+pub fn parts_of(line: usize) -> u8
+    requires { line < 27 }
 {
-    is_node(part(line, 0))
-        + is_node(part(line, 1))
-        + is_node(part(line, 2))
-        + is_node(part(line, 3))
+    let mut parts = 0;
+    for i in 0..4 {
+        if is_node(part(line, i)) {
+            parts += 1;
+        }
+    }
+    parts
 }
 
 // The kind of the node of a line.
 pub fn kind_of(line: usize) -> usize
-    requires { line ≤ 27 }
+    requires { line < 27 }
     ensures { result < 256 }
 {
     10 * (language(line, 19) % 16) + language(line, 20) % 16
@@ -90,82 +86,73 @@ pub fn kind_of(line: usize) -> usize
 
 // Byte i of a word, which has blanks behind it.
 fn letter(word: &[u8], i: usize) -> usize {
-    if i < word.len() { at(word, i) } else { 32 }
+    usize::from(word.get(i).copied().unwrap_or(b' '))
 }
 
 // Whether a line has the word, for the category.
 fn line_has(line: usize, category: usize, word: &[u8]) -> bool
-    requires { line ≤ 27 }
+    requires { line < 27 }
 {
-    if (10 < word.len()) | (language(line, 1) != category) {
+    if 10 < word.len() || language(line, 1) != category {
         return false;
     }
-    let mut i = 0;
-    while i < 10 {
+    for i in 0..10 {
         if language(line, 3 + i) != letter(word, i) {
             return false;
         }
-        i += 1;
     }
     true
 }
 
 // The line that has the word, for the category.
-fn line_of(category: usize, word: &[u8]) -> usize
-    ensures { result ≤ 27 }
+fn line_of(category: usize, word: &[u8]) -> Option<Fit>
+    ensures { IfSome result (λ fit. fit.line < 27) }
 {
-    let mut line = 0;
-    while line < NO_LINE {
+    for line in 0..LINES {
         if line_has(line, category, word) {
-            return line;
+            return Some(Fit { line, argument: 0 });
         }
-        line += 1;
     }
-    line
+    None
 }
 
 // Whether a word is a number below 100, in digits.
 fn spells(word: &[u8], k: usize) -> bool
     requires { k < 100 }
 {
-    if k < 10 {
-        return (word.len() == 1) & (at(word, 0) == 48 + k);
+    match word {
+        [ones] => usize::from(*ones) == 48 + k,
+        [tens, ones] => {
+            9 < k && usize::from(*tens) == 48 + k / 10 && usize::from(*ones) == 48 + k % 10
+        }
+        _ => false,
     }
-    (word.len() == 2) & (at(word, 0) == 48 + k / 10) & (at(word, 1) == 48 + k % 10)
 }
 
 // The line, and the number of this range that a word is.
-fn number_in(line: usize, least: usize, most: usize, word: &[u8]) -> Fit
-    requires { (line ≤ 27) × (most < 100) }
-    ensures { result.line ≤ 27 }
+fn number_in(line: usize, least: usize, most: usize, word: &[u8]) -> Option<Fit>
+    requires { (line < 27) × (most < 100) }
+    ensures { IfSome result (λ fit. fit.line < 27) }
 {
-    let mut k = least;
-    while k <= most {
+    for k in least..=most {
         if spells(word, k) {
-            return Fit { line, argument: k };
+            return Some(Fit { line, argument: k });
         }
-        k += 1;
     }
-    Fit {
-        line: NO_LINE,
-        argument: 0,
-    }
+    None
 }
 
 // The line of a word where something of a category is to come.
-pub fn look_up(category: usize, word: &[u8]) -> Fit
-    ensures { result.line ≤ 27 }
+pub fn look_up(category: usize, word: &[u8]) -> Option<Fit>
+    ensures { IfSome result (λ fit. fit.line < 27) }
 {
-    if category == b'K' as usize {
+    if category == usize::from(b'K') {
         return number_in(NUMBERS, 1, 60, word);
     }
-    if (category == b'A' as usize) & (at(word, 0) == b'p' as usize) {
-        if 0 < word.len() {
-            return number_in(PROPOSITIONS, 0, 15, &word[1..]);
+    match word {
+        [b'p', digits @ ..] if category == usize::from(b'A') => {
+            number_in(PROPOSITIONS, 0, 15, digits)
         }
-    }
-    Fit {
-        line: line_of(category, word),
-        argument: 0,
+        _ => line_of(category, word),
     }
 }

@@ -18,10 +18,7 @@ fn read_some(input: &mut impl Read, buf: &mut [u8]) -> usize
     ensures bound { result ≤ length buf.old }
     ensures length { length buf.new ≡ length buf.old }
 {
-    match input.read(buf) {
-        Ok(count) => count,
-        Err(_) => 0,
-    }
+    input.read(buf).unwrap_or(0)
 }
 
 // Reads standard input until buf is full, the input ends or a read fails, and answers how many bytes it put at the start of buf. On an empty buf it reads nothing.

@@ -2,7 +2,10 @@
 // expects.
 #![tactic(auto)]
 
-ghost use Rattle.std.specs.Prelude.{◌≡◌, ◌≤◌, length};
+ghost use Rattle.std.specs.Prelude.{◌≤◌, length};
+
+use base::room;
+use corpus::FRESH;
 
 // The counts: answers by number, and in the last slot the texts on which something is not as expected.
 const DISAGREEMENTS: usize = 34;
@@ -12,40 +15,12 @@ const OUTPUT: usize = 400;
 
 const ACTIONS: usize = 32;
 
-fn room_for_counts() -> [u64; 35]
-    ensures { 35 ≡ length result }
-{
-    [0u64; 35]
-}
-
-// Room for the longest text.
-fn room_for_text() -> [u8; 3000]
-    ensures { 3000 ≡ length result }
-{
-    [0u8; 3000]
-}
-
-// Room for an output, or for an answer and its sheet. Each byte is 170.
-fn room_for_output() -> [u8; 400]
-    ensures { 400 ≡ length result }
-{
-    [170u8; 400]
-}
-
-fn room_for_actions() -> [u16; 32]
-    ensures { 32 ≡ length result }
-{
-    [0u16; 32]
-}
-
 // Fills a list of actions from their bytes, and with zeros behind these.
 fn fill(actions: &mut [u16], bytes: &[u8])
     requires { length actions.old ≤ 32 }
 {
-    let mut n = 0;
-    while n < actions.len() {
+    for n in 0..actions.len() {
         actions[n] = corpus::number_at(bytes, 2 * n) as u16;
-        n += 1;
     }
 }
 
@@ -53,109 +28,68 @@ fn fill(actions: &mut [u16], bytes: &[u8])
 fn read(text: &[u8], bytes: &[u8], lent: usize, out: &mut [u8]) -> usize
     requires { lent ≤ length out.old }
 {
-    let mut actions = room_for_actions();
+    let mut actions = room::<u16, ACTIONS>(0);
     fill(&mut actions, bytes);
-    let listed = corpus::lent(true, bytes.len() / 2, ACTIONS);
-    lemondarts::lemondarts_read_text(text, &actions[0..listed], &mut out[0..lent]) as usize
+    let listed = (bytes.len() / 2).min(actions.len());
+    lemondarts::lemondarts_read_text(text, &actions[..listed], &mut out[..lent]) as usize
 }
 
 // The same with the second reader.
 fn read_again(text: &[u8], actions: &[u8], lent: usize, out: &mut [u8]) -> usize
     requires { lent ≤ length out.old }
 {
-    let found = naive_texts::read_text(text, actions, &mut out[0..lent]);
-    let low = found.number + 65536 * found.value;
-    low + 4294967296 * found.actions + 281474976710656 * found.nodes
+    match naive_texts::read_text(text, actions, &mut out[..lent]) {
+        Ok(sheet) => {
+            let low = 65536 * sheet.length;
+            low + 4294967296 * sheet.actions + 281474976710656 * sheet.nodes
+        }
+        Err(refusal) => refusal.number() + 65536 * refusal.spot(),
+    }
 }
 
 // Gives a text to both readers. Whether both answer what is expected, and leave the sheet that is expected and behind it what was there.
 fn agrees(text: &[u8], actions: &[u8], lent: usize, expected: &[u8], counts: &mut [u64]) -> bool
     requires { (lent ≤ 400) × (8 ≤ length expected.now) }
 {
-    let fresh = room_for_output();
-    let mut one = room_for_output();
-    let mut other = room_for_output();
+    let fresh = room::<u8, OUTPUT>(FRESH);
+    let mut one = room::<u8, OUTPUT>(FRESH);
+    let mut other = room::<u8, OUTPUT>(FRESH);
     let answer = read(text, actions, lent, &mut one);
     let again = read_again(text, actions, lent, &mut other);
     corpus::add(counts, answer % 65536, 1);
     let stated = corpus::long_answer_at(expected);
-    let same = (answer == stated) & corpus::written(&one, &expected[8..], &fresh);
-    same & (again == stated) & corpus::written(&other, &expected[8..], &fresh)
+    let sheet = &expected[8..];
+    answer == stated
+        && again == stated
+        && corpus::written(&one, sheet, &fresh)
+        && corpus::written(&other, sheet, &fresh)
 }
 
-// Compares, where so much output is there to lend, and an answer to compare with.
-fn compare(
-    text: &[u8],
-    actions: &[u8],
-    lent: usize,
-    expected: &[u8],
-    counts: &mut [u64],
-) -> corpus::Ran {
-    if OUTPUT < lent {
-        return corpus::cut_off();
+// Reads the rest of a record, behind its name, and compares, where so much output is there to lend, and an answer to compare with. Nothing where it was cut
+// off.
+fn run_text(rt: &(impl Input + Print), name: &[u8], counts: &mut [u64]) -> Option<()> {
+    let mut size_room = room::<u8, 64>(0);
+    let mut actions_room = room::<u8, 64>(0);
+    let mut text_room = room::<u8, 3000>(0);
+    let mut expected_room = room::<u8, OUTPUT>(0);
+    let size = corpus::read_block(rt, &mut size_room)?;
+    let actions = corpus::read_block(rt, &mut actions_room)?;
+    let text = corpus::read_block(rt, &mut text_room)?;
+    let expected = corpus::read_block(rt, &mut expected_room)?;
+    if size.len() != 2 || actions.len() % 2 != 0 {
+        return None;
     }
-    if expected.len() < 8 {
-        return corpus::cut_off();
+    let lent = corpus::number_at(size, 0);
+    if OUTPUT < lent || expected.len() < 8 {
+        return None;
     }
-    corpus::Ran {
-        whole: true,
-        agreed: agrees(text, actions, lent, expected, counts),
-    }
-}
-
-// Reads the rest of a record, behind its name, and compares.
-fn run_text(rt: &impl Input, counts: &mut [u64]) -> corpus::Ran {
-    let mut size = corpus::room_for_name();
-    let mut actions = corpus::room_for_name();
-    let mut text = room_for_text();
-    let mut expected = room_for_output();
-    let sized = corpus::read_block(rt, &mut size);
-    let listed = corpus::read_block(rt, &mut actions);
-    let given = corpus::read_block(rt, &mut text);
-    let answered = corpus::read_block(rt, &mut expected);
-    let l = listed.number;
-    let g = given.number;
-    let a = answered.number;
-    let sound = (sized.number == 2) & (l % 2 == 0);
-    if sized.whole & listed.whole & given.whole & answered.whole & sound {
-        return compare(
-            &text[0..g],
-            &actions[0..l],
-            corpus::number_at(&size, 0),
-            &expected[0..a],
-            counts,
-        );
-    }
-    corpus::cut_off()
-}
-
-// Reads a record and compares. Answers whether all of it was there.
-fn run_record(rt: &(impl Input + Print), counts: &mut [u64]) -> bool {
-    let mut name = corpus::room_for_name();
-    let named = corpus::read_block(rt, &mut name);
-    let n = named.number;
-    let ran = run_text(rt, counts);
-    corpus::settle(rt, counts, DISAGREEMENTS, named.whole, ran, &name[0..n])
-}
-
-// Runs the records.
-fn run(rt: &(impl Input + Print), counts: &mut [u64]) -> corpus::Progress {
-    let mut at = corpus::begin(rt);
-    while 0 < at.left {
-        at = corpus::behind(at, run_record(rt, counts));
-    }
-    at
+    let agreed = agrees(text, actions, lent, expected, counts);
+    corpus::settle(rt, counts, DISAGREEMENTS, agreed, name);
+    Some(())
 }
 
 fn main(rt: HostRuntime) {
-    let mut counts = room_for_counts();
-    let at = run(&rt, &mut counts);
-    standard_streams::write_all(&rt, b"texts ");
-    standard_streams::print_decimal(&rt, at.done as u64);
-    standard_streams::write_all(&rt, b"\nanswers");
-    corpus::show(&rt, &counts[0..34]);
-    standard_streams::write_all(&rt, b"\ndisagreements ");
-    standard_streams::print_decimal(&rt, counts[34]);
-    standard_streams::write_all(&rt, b"\n");
-    corpus::end(&rt, at);
+    let mut counts = room::<u64, 35>(0);
+    let at = corpus::run(&rt, &mut counts, |name, counts| run_text(&rt, name, counts));
+    corpus::report(&rt, b"texts ", at, &counts[..34], counts[34]);
 }

@@ -1,11 +1,6 @@
--- `naive_texts::words::expect_parts` meets its contract.
-use Prim.Native.Nat.{◌+◌, ◌≤◌}
-use mathlib.Core.Path.{◌≡◌}
-use lib.ListN.{length}
+-- `naive_texts::words::expect_parts` meets its contract. At most one thing more is to come for each part.
+use Rattle.std.proofs.Common.{◌≤◌, ◌+◌}
 use Rattle.naive_texts.proofs.words.expect_parts.Given as goal
 
 abbrev pub invariant-loop-i : goal.invariant-loop-i
-invariant-loop-i l = (l.i ≤ 4) × (l.depth + l.i ≤ l.before + 4) × (length l.to_come ≡ length l.initial.to_come)
-
-abbrev pub decreases-loop-i : goal.decreases-loop-i
-decreases-loop-i l = l.i
+invariant-loop-i l = l.depth ≤ l.before + l.i
