@@ -6,24 +6,21 @@ ghost use Rattle.answers.specs.Numbers.{pack as packed, packed_answer};
 
 use crate::tables::table_number;
 use base::pack;
-use compiler::{Compiled, Refusal, refusal_number, refusal_spot};
+use compiler::{CompileError, Refusal};
+use table::Header;
 
 pub fn refused_number(refusal: Refusal) -> u64
     ensures { result ≡ packed (number_of_refusal refusal) (spot_of_refusal refusal) 0 0 }
 {
-    pack(refusal_number(refusal), refusal_spot(refusal), 0, 0)
+    pack(refusal.number(), refusal.spot(), 0, 0)
 }
 
-pub fn compile_number(answer: Compiled) -> u64
+pub fn compile_number(answer: Result<Header, CompileError>) -> u64
     ensures { result ≡ packed_answer (answer_of answer) }
 {
     match answer {
-        Compiled::Table {
-            mode,
-            actions,
-            rows,
-        } => table_number(mode, actions, rows),
-        Compiled::ShortArea => 14,
-        Compiled::Refused(refusal) => refused_number(refusal),
+        Ok(header) => table_number(header),
+        Err(CompileError::ShortArea) => 14,
+        Err(CompileError::Refused(refusal)) => refused_number(refusal),
     }
 }

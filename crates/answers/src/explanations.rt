@@ -5,17 +5,17 @@ ghost use Rattle.answers.specs.Explanations.{packed_explanation};
 
 use crate::compiling::refused_number;
 use base::pack;
-use explaining::Explained;
+use explaining::{Denial, ExplainError};
 
-pub fn explain_number(answer: Explained) -> u64
+pub fn explain_number(answer: Result<Option<Denial>, ExplainError>) -> u64
     ensures { result ≡ packed_explanation (answer_of answer) }
 {
     match answer {
-        Explained::NoDenial => 0,
-        Explained::Denied { place: _, node } => pack(255, node, 0, 0),
-        Explained::ShortArea => 14,
-        Explained::Refused(refusal) => refused_number(refusal),
-        Explained::WatchedSheet => 34,
-        Explained::NoAction => 12,
+        Ok(None) => 0,
+        Ok(Some(denial)) => pack(255, denial.node, 0, 0),
+        Err(ExplainError::ShortArea) => 14,
+        Err(ExplainError::Refused(refusal)) => refused_number(refusal),
+        Err(ExplainError::WatchedSheet) => 34,
+        Err(ExplainError::NoAction) => 12,
     }
 }

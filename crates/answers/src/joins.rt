@@ -4,21 +4,21 @@ ghost use Rattle.joining.specs.Calling.{answer_of};
 ghost use Rattle.answers.specs.Numbers.{packed_answer};
 
 use crate::tables::table_number;
-use joining::Joined;
-use trace::Mode;
+use joining::JoinError;
+use table::Header;
 
-pub fn join_number(answer: Joined) -> u64
+pub fn join_number(answer: Result<Header, JoinError>) -> u64
     ensures { result ≡ packed_answer (answer_of answer) }
 {
     match answer {
-        Joined::Table { actions, rows } => table_number(Mode::Enforced, actions, rows),
-        Joined::ShortArea => 14,
-        Joined::WrongCount => 2,
-        Joined::Malformed => 10,
-        Joined::NotCanonical => 11,
-        Joined::WatchedTable => 34,
-        Joined::OtherActions => 23,
-        Joined::TooManyValues => 8,
-        Joined::TooManyRows => 9,
+        Ok(header) => table_number(header),
+        Err(JoinError::ShortArea) => 14,
+        Err(JoinError::WrongCount) => 2,
+        Err(JoinError::Malformed) => 10,
+        Err(JoinError::NotCanonical) => 11,
+        Err(JoinError::WatchedTable) => 34,
+        Err(JoinError::OtherActions) => 23,
+        Err(JoinError::TooManyValues) => 8,
+        Err(JoinError::TooManyRows) => 9,
     }
 }

@@ -3,27 +3,23 @@ ghost use Rattle.std.specs.Prelude.{◌≡◌};
 ghost use Rattle.table.specs.Answer.{answer_of, mode_number};
 ghost use Rattle.answers.specs.Numbers.{pack as packed, packed_answer};
 
-use base::{byte, pack};
-use table::{Loaded, mode_number};
-use trace::Mode;
+use base::pack;
+use table::{Header, LoadError, mode_number};
 
 // A table's type, actions and rows.
-pub fn table_number(mode: Mode, actions: usize, rows: usize) -> u64
-    ensures { result ≡ packed 0 (mode_number mode) actions rows }
+pub fn table_number(header: Header) -> u64
+    ensures { result ≡ packed 0 (mode_number header.mode) header.actions header.rows }
 {
-    pack(0, byte(mode_number(mode)), actions, rows)
+    let mode = usize::from(mode_number(header.mode));
+    pack(0, mode, header.actions, header.rows)
 }
 
-pub fn load_number(answer: Loaded) -> u64
+pub fn load_number(answer: Result<Header, LoadError>) -> u64
     ensures { result ≡ packed_answer (answer_of answer) }
 {
     match answer {
-        Loaded::Table {
-            mode,
-            actions,
-            rows,
-        } => table_number(mode, actions, rows),
-        Loaded::Malformed => 10,
-        Loaded::NotCanonical => 11,
+        Ok(header) => table_number(header),
+        Err(LoadError::Malformed) => 10,
+        Err(LoadError::NotCanonical) => 11,
     }
 }

@@ -4,21 +4,17 @@ ghost use Rattle.parser.specs.Calling.{answer_of};
 ghost use Rattle.answers.specs.Texts.{packed_text};
 
 use base::pack;
-use parser::TextRead;
+use parser::{SheetRead, TextError};
 
-pub fn text_number(answer: TextRead) -> u64
+pub fn text_number(answer: Result<SheetRead, TextError>) -> u64
     ensures { result ≡ packed_text (answer_of answer) }
 {
     match answer {
-        TextRead::Sheet {
-            length,
-            actions,
-            nodes,
-        } => pack(0, length, actions, nodes),
-        TextRead::ShortArea => 14,
-        TextRead::Actions => 2,
-        TextRead::LongText => 31,
-        TextRead::Unreadable(spot, _) => pack(32, spot, 0, 0),
-        TextRead::TooManyNodes => 33,
+        Ok(sheet) => pack(0, sheet.length, sheet.actions, sheet.nodes),
+        Err(TextError::ShortArea) => 14,
+        Err(TextError::Actions) => 2,
+        Err(TextError::LongText) => 31,
+        Err(TextError::Unreadable(spot, _)) => pack(32, spot, 0, 0),
+        Err(TextError::TooManyNodes) => 33,
     }
 }
