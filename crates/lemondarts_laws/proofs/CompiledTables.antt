@@ -15,7 +15,7 @@ use Rattle.syntax.specs.Faults.{number_of}
 use Rattle.syntax.specs.declared.Fault.{Fault}
 use Rattle.syntax.specs.declared.Fault.TheVariants.{Length, Counts, Areas, UnknownKindAt, WrongFieldAt, WrongTypeAt, BoundAt}
 use Rattle.syntax.specs.declared.Sheet.{Sheet}
-use Rattle.syntax.specs.declared.TypedNode.{TypedNode}
+use Rattle.syntax.specs.declared.NodeType.{NodeType}
 use Rattle.compiler.specs.Compiles.{values, rows, Builds, stops, Compiles, faulted, passes}
 use Rattle.compiler.specs.Calling.{CompilesInto}
 use Rattle.compiler_laws.proofs.Calls.{table-size, table-in-output}
@@ -35,7 +35,7 @@ fault-some (WrongFieldAt n) = omega arith
 fault-some (WrongTypeAt n) = omega arith
 fault-some (BoundAt n) = omega arith
 
-stop-some : {mode : Mode} {sheet : Sheet} {types : List TypedNode} {number spot : ℕ} {written : List ℕ} → Builds mode sheet types largest (refused number spot) written → 1 ≤ number
+stop-some : {mode : Mode} {sheet : Sheet} {types : List NodeType} {number spot : ℕ} {written : List ℕ} → Builds mode sheet types largest (refused number spot) written → 1 ≤ number
 stop-some (stops tables n number h built p (values over)) = omega arith
 stop-some (stops tables n number h built p (rows few over)) = omega arith
 
