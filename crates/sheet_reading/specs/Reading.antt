@@ -16,6 +16,11 @@ use Rattle.sheet_reading.specs.declared.NodesRead.{NodesRead}
 abbrev pub NodeRead : Type 0
 NodeRead = Result Node NodeError
 
+-- The fault of a node that cannot be read.
+abbrev pub read_fault : NodeError → ℕ → Fault
+read_fault UnknownKind n = UnknownKindAt n
+read_fault WrongField n = WrongFieldAt n
+
 -- check 5 passes, or not
 abbrev pub given : Bool → Node → NodeRead
 given true node = Ok node
@@ -80,8 +85,7 @@ stopped_at nodes fault = record { judged = Err fault; nodes = nodes }
 
 abbrev pub read_next : ℕ → List Node → NodeRead → NodesRead
 read_next n nodes (Ok node) = all_read (set nodes n node)
-read_next n nodes (Err WrongField) = stopped_at nodes (WrongFieldAt n)
-read_next n nodes (Err UnknownKind) = stopped_at nodes (UnknownKindAt n)
+read_next n nodes (Err error) = stopped_at nodes (read_fault error n)
 
 abbrev pub unless_stopped : Judged → NodesRead → (List Node → NodesRead) → NodesRead
 unless_stopped (Ok passed) read next = next read.nodes

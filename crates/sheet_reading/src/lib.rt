@@ -1,6 +1,9 @@
 // Reading a sheet whose areas are found: its action list, and its nodes by checks 4 and 5.
 #![tactic(auto)]
 
+ghost use Rattle.std.specs.Prelude.{◌≡◌};
+ghost use Rattle.sheet_reading.specs.Reading.{read_fault};
+
 use syntax::{Fault, Node};
 
 mod nodes;
@@ -13,6 +16,18 @@ pub use reading::{read_actions, read_nodes};
 pub enum NodeError {
     UnknownKind,
     WrongField,
+}
+
+impl NodeError {
+    // The fault of a node that cannot be read.
+    fn at(self, node: usize) -> Fault
+        ensures { result ≡ read_fault self node }
+    {
+        match self {
+            NodeError::UnknownKind => Fault::UnknownKindAt(node),
+            NodeError::WrongField => Fault::WrongFieldAt(node),
+        }
+    }
 }
 
 // The nodes that pass checks 4 and 5, up to the first that does not, and its fault.

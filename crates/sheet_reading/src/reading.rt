@@ -3,10 +3,10 @@ ghost use Rattle.std.specs.Prelude.{◌≡◌, ◌<◌};
 ghost use Rattle.sheet_layout.specs.Layout.{actions_at, nodes_at, Inside};
 ghost use Rattle.sheet_reading.specs.Reading.{read_nodes, read_actions};
 
+use crate::NodesRead;
 use crate::nodes::read_node;
-use crate::{NodeError, NodesRead};
 use base::word;
-use syntax::{Fault, Node};
+use syntax::Node;
 
 // The propositions of each action. The list stands at `from`.
 pub fn read_actions(bytes: &[u8], from: usize, actions: usize) -> [u16; 16]
@@ -31,15 +31,9 @@ pub fn read_nodes(bytes: &[u8], from: usize, count: usize) -> NodesRead
     for n in 0..count {
         match read_node(bytes, from + 5 * n, n) {
             Ok(node) => nodes[n] = node,
-            Err(NodeError::UnknownKind) => {
+            Err(error) => {
                 return NodesRead {
-                    judged: Err(Fault::UnknownKindAt(n)),
-                    nodes,
-                };
-            }
-            Err(NodeError::WrongField) => {
-                return NodesRead {
-                    judged: Err(Fault::WrongFieldAt(n)),
+                    judged: Err(error.at(n)),
                     nodes,
                 };
             }

@@ -3,6 +3,8 @@
 use Rattle.std.specs.Prelude.{Result, ℕ}
 use Rattle.syntax.specs.declared.Fault.{Fault}
 use Rattle.syntax.specs.declared.Fault.TheVariants.{Length, Counts, Areas, UnknownKindAt, WrongFieldAt, WrongTypeAt, BoundAt}
+use Rattle.syntax.specs.declared.TypeError.{TypeError}
+use Rattle.syntax.specs.declared.TypeError.TheVariants.{Unfit, TooLong}
 
 -- What checks find: no fault, or the first one.
 abbrev pub Judged : Type 0
@@ -25,3 +27,8 @@ spot_of (UnknownKindAt n) = n
 spot_of (WrongFieldAt n) = n
 spot_of (WrongTypeAt n) = n
 spot_of (BoundAt n) = n
+
+-- The fault of a node that has no type.
+abbrev pub type_fault : TypeError → ℕ → Fault
+type_fault Unfit n = WrongTypeAt n
+type_fault TooLong n = BoundAt n

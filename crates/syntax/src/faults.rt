@@ -1,8 +1,8 @@
 // Faults as numbers and spots (docs/FORMATS.md, "Refusals").
 ghost use Rattle.std.specs.Prelude.{◌≡◌};
-ghost use Rattle.syntax.specs.Faults.{number_of, spot_of};
+ghost use Rattle.syntax.specs.Faults.{number_of, spot_of, type_fault};
 
-use crate::Fault;
+use crate::{Fault, TypeError};
 
 impl Fault {
     // The number of a fault.
@@ -30,6 +30,18 @@ impl Fault {
             | Fault::WrongFieldAt(node)
             | Fault::WrongTypeAt(node)
             | Fault::BoundAt(node) => node,
+        }
+    }
+}
+
+impl TypeError {
+    // The fault of a node that has no type.
+    pub fn at(self, node: usize) -> Fault
+        ensures { result ≡ type_fault self node }
+    {
+        match self {
+            TypeError::Unfit => Fault::WrongTypeAt(node),
+            TypeError::TooLong => Fault::BoundAt(node),
         }
     }
 }

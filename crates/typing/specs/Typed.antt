@@ -1,6 +1,5 @@
 -- Checks 6 and 7 of the used nodes of a sheet, one by one, and the last node's 6: the first fault, or the types of the nodes.
 -- Assumes nothing.
-use Rattle.syntax.specs.declared.TypeError.TheVariants.{TooLong, Unfit}
 use Rattle.syntax.specs.declared.Node.{Node}
 use Rattle.std.specs.Prelude.{Err, Ok, ◌≡◌, cond, List, ℕ, zero, suc, ◌-◌, ◌<◌, set, replicate}
 use Rattle.base.specs.Sets.{bit}
@@ -8,6 +7,7 @@ use Rattle.trace.specs.declared.Mode.{Mode}
 use Rattle.policy.specs.declared.Bound.{Bound}
 use Rattle.policy.specs.Typing.{typed as Typed, policy_type}
 use Rattle.syntax.specs.Nodes.{node_at, node_of}
+use Rattle.syntax.specs.Faults.{type_fault}
 use Rattle.syntax.specs.Formed.{Formed}
 use Rattle.syntax.specs.Types.{TypeFound, type_at, type_node}
 use Rattle.syntax.specs.Meaning.{Meaning, formula, policy}
@@ -15,7 +15,7 @@ use Rattle.syntax.specs.declared.Sheet.{Sheet}
 use Rattle.syntax.specs.declared.NodeType.{NodeType}
 use Rattle.syntax.specs.declared.NodeType.TheVariants.{Unused, Formula, Policy}
 use Rattle.syntax.specs.declared.Fault.{Fault}
-use Rattle.syntax.specs.declared.Fault.TheVariants.{WrongTypeAt, BoundAt}
+use Rattle.syntax.specs.declared.Fault.TheVariants.{WrongTypeAt}
 use Rattle.syntax.specs.declared.TypedNodes.{TypedNodes}
 use Rattle.reached.specs.Parts.{Used, used_set}
 
@@ -30,8 +30,7 @@ no_types = replicate 64 Unused
 -- checks 6 and 7 of node n, the nodes before it having `types`
 abbrev pub type_next : ℕ → List NodeType → TypeFound → Typings
 type_next n types (Ok t) = typed (set types n t)
-type_next n types (Err Unfit) = mistyped (WrongTypeAt n) types
-type_next n types (Err TooLong) = mistyped (BoundAt n) types
+type_next n types (Err error) = mistyped (type_fault error n) types
 
 -- an earlier fault stays
 abbrev pub unless_mistyped : Typings → (List NodeType → Typings) → Typings

@@ -4,7 +4,7 @@
 ghost use Rattle.std.specs.Prelude.{◌≡◌, ◌≤◌};
 ghost use Rattle.typing.specs.Typed.{type_nodes, typed_nodes};
 
-use syntax::{Fault, Node, NodeType, TypeError, TypedNodes, type_node};
+use syntax::{Node, NodeType, TypedNodes, type_node};
 
 // The types of the used ones among the first `count` nodes; or the first fault among them, and the types of those before it.
 pub fn type_nodes(used: u64, nodes: [Node; 64], count: usize) -> TypedNodes
@@ -16,15 +16,9 @@ pub fn type_nodes(used: u64, nodes: [Node; 64], count: usize) -> TypedNodes
         if (used >> n) % 2 == 1 {
             match type_node(nodes[n], types) {
                 Ok(found) => types[n] = found,
-                Err(TypeError::Unfit) => {
+                Err(error) => {
                     return TypedNodes {
-                        judged: Err(Fault::WrongTypeAt(n)),
-                        types,
-                    };
-                }
-                Err(TypeError::TooLong) => {
-                    return TypedNodes {
-                        judged: Err(Fault::BoundAt(n)),
+                        judged: Err(error.at(n)),
                         types,
                     };
                 }

@@ -42,12 +42,5 @@ module _ (c : After-type_node) where
       (sym (fault-at used nodes n types c.loop-n.invariant in_use c.type_node.result c.type_node.ensures _ f
       c.loop-n-test.true e))
 
-pub returns-in-Err-Unfit : goal.returns-in-Err-Unfit
-returns-in-Err-Unfit c =
-    let a = (goal.at.returns-in-Err-Unfit c).After-type_node in
-    faulty a _ (ap (found_as a) (rw c.in-Err-Unfit.field-0-is at c.in-Err-Unfit.is))
-
-pub returns-in-Err-TooLong : goal.returns-in-Err-TooLong
-returns-in-Err-TooLong c =
-    let a = (goal.at.returns-in-Err-TooLong c).After-type_node in
-    faulty a _ (ap (found_as a) (rw c.in-Err-TooLong.field-0-is at c.in-Err-TooLong.is))
+pub returns-in-Err : goal.returns-in-Err
+returns-in-Err c = let a = (goal.at.returns-in-Err c).After-type_node in rw c.at.ensures (faulty a _ (ap (found_as a) c.in-Err.is))

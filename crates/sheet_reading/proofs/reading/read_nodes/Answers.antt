@@ -40,15 +40,8 @@ module _ (c : After-read_node) where
   stopped f e =
       sym (stopped-at bytes n nodes c.loop-n.invariant c.read_node.result is count f c.loop-n-test.true e)
 
-pub returns-in-Err-UnknownKind : goal.returns-in-Err-UnknownKind
-returns-in-Err-UnknownKind c =
-    let a = (goal.at.returns-in-Err-UnknownKind c).After-read_node in
-    stopped a _ (ap (read_as a) (rw c.in-Err-UnknownKind.field-0-is at c.in-Err-UnknownKind.is))
-
-pub returns-in-Err-WrongField : goal.returns-in-Err-WrongField
-returns-in-Err-WrongField c =
-    let a = (goal.at.returns-in-Err-WrongField c).After-read_node in
-    stopped a _ (ap (read_as a) (rw c.in-Err-WrongField.field-0-is at c.in-Err-WrongField.is))
+pub returns-in-Err : goal.returns-in-Err
+returns-in-Err c = let a = (goal.at.returns-in-Err c).After-read_node in rw c.at.ensures (stopped a _ (ap (read_as a) c.in-Err.is))
 
 pub loop-n-preserved : goal.loop-n-preserved
 loop-n-preserved c =
