@@ -1,4 +1,4 @@
--- The goals of `rules::sets::move_copies` that the check leaves.
+-- The goals of `rules::PartRows::move_copies` that the check leaves.
 use mathlib.Core.Path.{◌≡◌, sym, ◌∙◌, ap}
 use Prim.Native.Nat.{ℕ, ◌-◌, ◌<◌}
 use native.Mathlib.Omega.{arith}
@@ -8,8 +8,8 @@ use Rattle.trace.specs.Trace.{Move, trip, go}
 use Rattle.rules.specs.Rules.{part_at, move_of}
 use Rattle.rules.proofs.Moves.{row_below, begun, gone, tripped, ended}
 use Rattle.rules.proofs.Reading.{goes-below, index-fits}
-use Rattle.rules.proofs.sets.move_copies.Goals as goal
-use Rattle.rules.proofs.sets.move_copies.Goals.{In_ok-next, In_err-next, In-loop-rest}
+use Rattle.rules.proofs.PartRows.move_copies.Goals as goal
+use Rattle.rules.proofs.PartRows.move_copies.Goals.{In_ok-next, In_err-next, In-loop-rest}
 
 -- in a turn: a row is left, the lowest is below 64, and the part moves from it
 module _ (c : In-loop-rest) where
@@ -22,7 +22,7 @@ module _ (c : In-loop-rest) where
   abbrev move : Move ℕ
   move =
       let a = c.args in
-      part_at a.actions a.work.now a.i (count_trailing_zeros 64 c.loop-rest.rest) a.action
+      part_at a.self.actions a.self.work.now a.i (count_trailing_zeros 64 c.loop-rest.rest) a.action
 
 trips : (c : In_err-next) → move (goal.at.In_err-next c).In-loop-rest ≡ trip
 trips c = let e = c.in_err-next.ensures in sym e
@@ -39,8 +39,8 @@ overflow_cast-row c = omega (arith, low c)
 pub part_move-requires : goal.part_move-requires
 part_move-requires c =
     let pre = c.requires in
-    let byte : count_trailing_zeros 64 c.loop-rest.rest < 256 = omega (arith, low c) in
-    (pre.0, pre.1.node, index-fits byte pre.2 pre.3)
+    let byte : count_trailing_zeros 64 c.loop-rest.rest < 256 = omega (arith, low (goal.at.part_move-requires c).In-loop-rest) in
+    (c.args.self.room, pre.0.node, index-fits byte c.args.self.few pre.1)
 
 pub loop-rest-smaller : goal.loop-rest-smaller
 loop-rest-smaller c =
@@ -58,7 +58,7 @@ returns-in_err-next c =
     ap move_of c.from_residual.ensures ∙ sym e
 
 pub with_row-moved-requires : goal.with_row-moved-requires
-with_row-moved-requires c = goes-below c.requires.1 _ _ _ _ (goes (goal.at.with_row-moved-requires c).In_ok-next)
+with_row-moved-requires c = goes-below c.requires.0 _ _ _ _ (goes (goal.at.with_row-moved-requires c).In_ok-next)
 
 pub loop-rest-preserved : goal.loop-rest-preserved
 loop-rest-preserved c =
