@@ -5,7 +5,6 @@ ghost use Rattle.sheet_reading.specs.Reading.{read_nodes, read_actions};
 
 use crate::NodesRead;
 use crate::nodes::read_node;
-use base::word;
 use syntax::Node;
 
 // The propositions of each action. The list stands at `from`.
@@ -16,7 +15,8 @@ pub fn read_actions(bytes: &[u8], from: usize, actions: usize) -> [u16; 16]
 {
     let mut propositions = [0u16; 16];
     for a in 0..actions {
-        propositions[a] = word(bytes, from + 2 * a) as u16;
+        let at = from + 2 * a;
+        propositions[a] = u16::from_le_bytes([bytes[at], bytes[at + 1]]);
     }
     propositions
 }
