@@ -20,14 +20,13 @@ pub fn build_sheet(
 {
     let judged = judge(sheet);
     let mode = judged.found?;
-    let read = judged.sheet;
-    let types = judged.types;
-    let sets = formula_sets(&read, &types);
-    let rules = rules_of(&read, &types, &sets);
+    let read = &judged.sheet;
+    let sets = formula_sets(read, &judged.types);
+    let rules = rules_of(read, &judged.types, &sets);
     let rows = build_all(rules, read.count, read.actions, limits, work, values)?;
     Ok(BuiltSheet {
         mode,
         rows,
-        sheet: read,
+        sheet: judged.sheet,
     })
 }

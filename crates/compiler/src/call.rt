@@ -13,7 +13,7 @@ use machine_tables::write_rows;
 use making::long_enough;
 use table::{Header, LARGEST_TABLE};
 
-// Compiles a sheet with any limits.
+// Compiles a sheet with any limits. The areas stay slices of their own down to here: `compile` is lent them so by C, and its clause is over each.
 fn compile_with(
     sheet: &[u8],
     out: &mut [u8],

@@ -26,8 +26,7 @@ impl Refusal {
     {
         match self {
             Refusal::Faulty(fault) => fault.spot(),
-            Refusal::TooManyValues(node) => node,
-            Refusal::TooManyRows(node) => node,
+            Refusal::TooManyValues(node) | Refusal::TooManyRows(node) => node,
         }
     }
 }

@@ -43,7 +43,7 @@ fn find_denial(built: &BuiltSheet, list: &[u8], work: &[u8]) -> Result<Option<De
     }))
 }
 
-// Explains with any limits.
+// Explains with any limits. The areas stay slices of their own down to here: `explain` is lent them so by C, and its clause is over each.
 fn explain_with(
     sheet: &[u8],
     list: &[u8],

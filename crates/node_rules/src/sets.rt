@@ -30,17 +30,17 @@ pub fn others(actions: usize, set: u16) -> u16
     requires { actions ≤ 16 }
     ensures { result ≡ others_below actions set }
 {
-    every_action(actions) & (65535 - set)
+    every_action(actions) & !set
 }
 
 // The actions that satisfy proposition p.
-fn proposition_set(propositions: &[u16; 16], actions: usize, p: u8) -> u16
-    requires { (actions ≤ 16) × (p < 16) }
-    ensures { result ≡ proposition_set propositions.now actions p }
+fn proposition_set(sheet: &Sheet, p: u8) -> u16
+    requires { (sheet.now.actions ≤ 16) × (p < 16) }
+    ensures { result ≡ proposition_set sheet.now.propositions sheet.now.actions p }
 {
     let mut set = 0;
-    for a in 0..actions {
-        if (propositions[a] >> p) % 2 == 1 {
+    for a in 0..sheet.actions {
+        if (sheet.propositions[a] >> p) % 2 == 1 {
             set += only(a);
         }
     }
@@ -56,15 +56,15 @@ pub fn set_at(sets: &[u16; 64], i: u8) -> u16
 }
 
 // The set of a node, from those of the nodes before it. A policy has none.
-fn formula_set(node: Node, propositions: &[u16; 16], actions: usize, sets: &[u16; 64]) -> u16
-    requires actions_bound { (actions ≤ 16) × (length sets.now ≡ 64) }
+fn formula_set(node: Node, sheet: &Sheet, sets: &[u16; 64]) -> u16
+    requires actions_bound { (sheet.now.actions ≤ 16) × (length sets.now ≡ 64) }
     requires argument_fits { ArgumentFits node }
-    ensures { result ≡ set_from propositions.now actions (set_at sets.now) node }
+    ensures { result ≡ set_from sheet.now.propositions sheet.now.actions (set_at sets.now) node }
 {
     match node {
-        Node::True => every_action(actions),
-        Node::Proposition(p) => proposition_set(propositions, actions, p),
-        Node::Negation(a) => others(actions, set_at(sets, a)),
+        Node::True => every_action(sheet.actions),
+        Node::Proposition(p) => proposition_set(sheet, p),
+        Node::Negation(a) => others(sheet.actions, set_at(sets, a)),
         Node::Conjunction(a, b) => set_at(sets, a) & set_at(sets, b),
         Node::Disjunction(a, b) => set_at(sets, a) | set_at(sets, b),
         _ => 0,
@@ -79,7 +79,7 @@ pub fn formula_sets(sheet: &Sheet, types: &[NodeType; 64]) -> [u16; 64]
     let mut sets = [0; 64];
     for n in 0..sheet.count {
         if let NodeType::Formula = types[n] {
-            sets[n] = formula_set(sheet.nodes[n], &sheet.propositions, sheet.actions, &sets);
+            sets[n] = formula_set(sheet.nodes[n], sheet, &sets);
         }
     }
     sets

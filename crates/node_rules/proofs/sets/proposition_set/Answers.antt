@@ -12,4 +12,4 @@ pub overflow_add-set : goal.overflow_add-set
 overflow_add-set c =
     let a = c.loop-a.a in
     let h : a < 16 = omega arith in
-    omega (arith, c.only-set.ensures, c.loop-a.invariant, set-width (λ x. bit (get_or c.args.propositions.now x 0) c.args.p) a, pow_mono {i = suc a} {j = 16} h, pow-suc 2 a)
+    omega (arith, c.only-set.ensures, c.loop-a.invariant, set-width (λ x. bit (get_or c.args.sheet.now.propositions x 0) c.args.p) a, pow_mono {i = suc a} {j = 16} h, pow-suc 2 a)

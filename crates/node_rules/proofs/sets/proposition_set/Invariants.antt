@@ -4,4 +4,4 @@ use Rattle.node_rules.specs.FormulaSets.{proposition_set}
 use Rattle.node_rules.proofs.sets.proposition_set.Given as goal
 
 abbrev pub invariant-loop-a : goal.invariant-loop-a
-invariant-loop-a l = l.set ≡ proposition_set l.propositions l.a l.p
+invariant-loop-a l = l.set ≡ proposition_set l.sheet.propositions l.a l.p
