@@ -5,37 +5,39 @@ ghost use Rattle.std.specs.Prelude.{◌≡◌, true, ℕ, ◌+◌, ◌*◌, ◌�
 ghost use Rattle.distances.specs.Distances.{behind_entry, OneFurther, NotBelow, NotAbove, Distances, SameNumber};
 ghost use Rattle.automaton.specs.Partition.{SplitsTo};
 
-// The distance behind entry k, 0 for a trip.
-fn behind_entry(next: &[u16], far: &[u8], k: usize) -> u8
-    requires { k < length next.now }
-    ensures { result ≡ behind_entry next.now far.now k }
+use automaton::Transitions;
+
+// The distance behind an action of a state, 0 for a trip.
+fn behind_action(machine: Transitions<'_>, far: &[u8], s: usize, a: usize) -> u8
+    requires { s * machine.actions + a < length machine.next.now }
+    ensures { result ≡ behind_entry machine.entry.next.now far.now (s * machine.entry.actions + a) }
 {
-    let s = usize::from(next[k]);
-    if s < far.len() { far[s] } else { 0 }
+    let target = machine.target(s, a);
+    if target < far.len() { far[target] } else { 0 }
 }
 
-// One more than the least distance behind a state's entries, which begin at `row`; at most 255.
-fn one_further(next: &[u16], far: &[u8], row: usize, actions: usize) -> u8
-    requires { row + actions ≤ length next.now }
-    ensures { OneFurther next.now far.now row actions result }
+// One more than the least distance behind a state's actions; at most 255.
+fn one_further(machine: Transitions<'_>, far: &[u8], s: usize) -> u8
+    requires { s * machine.actions + machine.actions ≤ length machine.next.now }
+    ensures { OneFurther machine.entry.next.now far.now (s * machine.entry.actions) machine.entry.actions result }
 {
     let mut least = 254u8;
-    for a in 0..actions {
-        least = least.min(behind_entry(next, far, row + a));
+    for a in 0..machine.actions {
+        least = least.min(behind_action(machine, far, s, a));
     }
     least + 1
 }
 
 // Puts each state one further than the nearest behind it, the last state first. Answers whether all stood so before.
-fn sweep(next: &[u16], actions: usize, far: &mut [u8]) -> bool
-    requires next_len { length next.now ≡ length far.old * actions }
-    requires not_below { NotBelow actions next.now far.old }
-    ensures not_below_2 { NotBelow actions next.now far.new }
-    ensures not_above { result ≡ true → (s : ℕ) → s < length far.new → NotAbove actions next.now far.new s }
+fn sweep(machine: Transitions<'_>, far: &mut [u8]) -> bool
+    requires next_len { length machine.next.now ≡ length far.old * machine.actions }
+    requires not_below { NotBelow machine.actions machine.next.now far.old }
+    ensures not_below_2 { NotBelow machine.entry.actions machine.entry.next.now far.new }
+    ensures not_above { result ≡ true → (s : ℕ) → s < length far.new → NotAbove machine.entry.actions machine.entry.next.now far.new s }
 {
     let mut settled = true;
     for s in (0..far.len()).rev() {
-        let further = one_further(next, far, s * actions, actions);
+        let further = one_further(machine, far, s);
         settled &= far[s] == further;
         far[s] = further;
     }
@@ -43,13 +45,13 @@ fn sweep(next: &[u16], actions: usize, far: &mut [u8]) -> bool
 }
 
 // Measures the distances. Answers whether they are found: a few sweeps are enough for most machines, and no more are made.
-pub fn measure(next: &[u16], actions: usize, far: &mut [u8]) -> bool
-    requires { length next.now ≡ length far.old * actions }
-    ensures { result ≡ true → Distances actions next.now far.new }
+pub fn measure(machine: Transitions<'_>, far: &mut [u8]) -> bool
+    requires { length machine.next.now ≡ length far.old * machine.actions }
+    ensures { result ≡ true → Distances machine.entry.actions machine.entry.next.now far.new }
 {
     far.fill(255);
     for _ in 0..8 {
-        if sweep(next, actions, far) {
+        if sweep(machine, far) {
             return true;
         }
     }

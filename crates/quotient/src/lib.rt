@@ -4,7 +4,8 @@
 ghost use Rattle.std.specs.Prelude.{◌≡◌, ◌++◌, ◌*◌, drop};
 ghost use Rattle.automaton.specs.Quotient.{quotient_rows, Divisible};
 
-use signatures::class_behind;
+use automaton::Transitions;
+use signatures::class_of;
 
 // Writes a row for each class: the classes behind its first member, 255 for a trip.
 pub fn quotient(
@@ -18,10 +19,11 @@ pub fn quotient(
     requires { Divisible actions count next.now firsts.now out.old }
     ensures { out.new ≡ quotient_rows actions count next.now classes.now firsts.now ++ drop (count * actions) out.old }
 {
+    let machine = Transitions { next, actions };
     for row in 0..count {
-        let from = firsts[row] * actions;
+        let first = firsts[row];
         for action in 0..actions {
-            out[row * actions + action] = class_behind(next, classes, from + action);
+            out[row * actions + action] = class_of(classes, machine.target(first, action));
         }
     }
 }

@@ -3,4 +3,4 @@ use Rattle.distances.specs.Distances.{NotBelow}
 use Rattle.distances.proofs.measure.Given as goal
 
 abbrev pub invariant-loop : goal.invariant-loop
-invariant-loop l = NotBelow l.actions l.next l.far
+invariant-loop l = NotBelow l.machine.actions l.machine.next.now l.far

@@ -7,11 +7,11 @@ pub loop-a-init : goal.loop-a-init
 loop-a-init c = least-none _ _ _
 
 pub loop-a-preserved : goal.loop-a-preserved
-loop-a-preserved c = least_more _ _ _ _ _ _ _ c.loop-a.invariant c.behind_entry.ensures c.min-least.ensures
+loop-a-preserved c = least_more _ _ _ _ _ _ _ c.loop-a.invariant c.behind_action.ensures c.min-least.ensures
 
 pub returns : goal.returns
 returns c =
-    let e : c.loop-a.a ≡ c.args.actions = omega arith in
+    let e : c.loop-a.a ≡ c.args.machine.actions = omega arith in
     least-further _ _ _ _ _ (rw e at c.loop-a.invariant)
 
 pub overflow_add-result : goal.overflow_add-result

@@ -14,8 +14,8 @@ module _ (c : In-loop-s) where
   start = (goal.at.In-loop-s c).Start
 
   -- the entries of the state
-  within : (c.loop-s.s - 1) * start.args.actions + start.args.actions ≤ length start.args.next.now
-  within = entries-within (length start.args.far.now) start.args.actions (length start.args.next.now) (c.loop-s.s - 1) start.requires.next_len (omega arith)
+  within : (c.loop-s.s - 1) * start.args.machine.actions + start.args.machine.actions ≤ length start.args.machine.next.now
+  within = entries-within (length start.args.far.now) start.args.machine.actions (length start.args.machine.next.now) (c.loop-s.s - 1) start.requires.next_len (omega arith)
 
 pub loop-s-preserved : goal.loop-s-preserved
 loop-s-preserved c =

@@ -7,6 +7,6 @@ use Rattle.distances.proofs.sweep.Given as goal
 abbrev pub invariant-loop-s : goal.invariant-loop-s
 invariant-loop-s l =
     record {
-      not_below : NotBelow l.actions l.next l.far;
-      not_above : l.settled ≡ true → (t : ℕ) → l.s ≤ t → t < length l.far → NotAbove l.actions l.next l.far t;
+      not_below : NotBelow l.machine.actions l.machine.next.now l.far;
+      not_above : l.settled ≡ true → (t : ℕ) → l.s ≤ t → t < length l.far → NotAbove l.machine.actions l.machine.next.now l.far t;
     }

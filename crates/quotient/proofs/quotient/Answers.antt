@@ -1,5 +1,5 @@
 -- The goal of `quotient::quotient` that the check leaves: one entry more.
-use Rattle.std.proofs.Common.{◌≡◌, List, ℕ, ◌+◌, ◌*◌, ◌<◌, get_or, sym, ◌∙◌, subst, arith}
+use Rattle.std.proofs.Common.{◌≡◌, List, ℕ, ◌+◌, ◌*◌, ◌<◌, get_or, sym, ap, ◌∙◌, subst, arith}
 use mathlib.Core.Path.{ap₂}
 use lib.Arith.{digits_lt, digits_div, digits_mod}
 use Rattle.automaton.specs.Partition.{class_of, first_of}
@@ -20,4 +20,4 @@ loop-action-preserved c =
     let e : k + 1 ≡ c.loop-row.row * c.args.actions + (c.loop-action.action + 1) = omega arith in
     subst (Stored (quotient_entry c.args.actions c.args.next.now c.args.classes.now c.args.firsts.now) (c.args.count * c.args.actions) c.args.out.now _) e
     (stored_more c.loop-action.invariant (digits_lt c.loop-row-test.true here) c.requires.room
-    (c.class_behind.ensures ∙ entry_of c.args.next.now c.args.classes.now c.args.firsts.now c.loop-row.row here))
+    (c.class_of.ensures ∙ ap (class_of c.args.classes.now) c.target.ensures ∙ entry_of c.args.next.now c.args.classes.now c.args.firsts.now c.loop-row.row here))

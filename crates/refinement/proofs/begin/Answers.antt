@@ -10,7 +10,7 @@ use Rattle.refinement.proofs.begin.Goals as goal
 pub returns-then-measure : goal.returns-then-measure
 returns-then-measure c =
     let paired : length c.measure.new.far ≡ length c.args.classes.now = omega (arith, c.requires.paired) in
-    subst (λ (n : ℕ). BeginsWith n c.args.actions c.args.limit c.args.next.now c.split.result c.split.new.classes) paired
+    subst (λ (n : ℕ). BeginsWith n c.args.machine.actions c.args.limit c.args.machine.next.now c.split.result c.split.new.classes) paired
     (begins-with _ _ _ c.measure.new.far _ c.split.new.firsts (c.measure.ensures c.if-measure.true) (omega arith) _ c.split.ensures)
 
 -- they are not

@@ -8,6 +8,6 @@ abbrev pub invariant-loop-s : goal.invariant-loop-s
 invariant-loop-s l =
     record {
       few : l.count ≤ l.limit;
-      split : Partition (SameSignature l.actions l.next l.classes) l.s l.count l.finer l.firsts;
+      split : Partition (SameSignature l.machine.actions l.machine.next.now l.classes) l.s l.count l.finer l.firsts;
       risen : Risen l.classes l.finer l.s;
     }

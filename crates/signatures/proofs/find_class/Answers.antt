@@ -21,6 +21,6 @@ pub returns : goal.returns
 returns c =
     lowest _ c.requires (search rules) c.find.result
     (first_from_Range _ _ _ _
-    (λ d. SameSignature c.args.actions c.args.next.now c.args.classes.now (first_of c.args.firsts.now d) c.args.s)
-    (λ d. SameSignature c.args.actions c.args.next.now c.args.classes.now (first_of c.args.firsts.now d) c.args.s → ⊥)
+    (λ d. SameSignature c.args.machine.actions c.args.machine.next.now c.args.classes.now (first_of c.args.firsts.now d) c.args.s)
+    (λ d. SameSignature c.args.machine.actions c.args.machine.next.now c.args.classes.now (first_of c.args.firsts.now d) c.args.s → ⊥)
     c.find.ensures.ran (λ x q k. search (rules, tests)) (λ x q k. (search rules, search (rules, tests))))
