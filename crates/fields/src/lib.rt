@@ -74,11 +74,11 @@ pub fn part(bytes: &[u8], from: usize, to: usize) -> &[u8]
     front(bytes, to).get(from..).unwrap_or(&[])
 }
 
-// The first bytes, as many as there are.
+// The first items, as many as there are.
 #[tactic(auto, using(std::proofs::lemmas::List::take_min))]
-pub fn front(bytes: &[u8], count: usize) -> &[u8]
-    ensures { result.now ≡ take count bytes.now }
+pub fn front<T>(items: &[T], count: usize) -> &[T]
+    ensures { result.now ≡ take count items.now }
 {
-    let end = count.min(bytes.len());
-    &bytes[..end]
+    let end = count.min(items.len());
+    &items[..end]
 }

@@ -1,48 +1,45 @@
 // What each word of the command does.
-ghost use Rattle.std.specs.Prelude.{◌≡◌, ◌*◌, ◌≤◌, length};
+ghost use Rattle.std.specs.Prelude.{◌≡◌, length};
 
-use crate::compiling::{Made, compile_to, make_file, none_made, open_file, over_actions, refused};
+use crate::compiling::{Made, compile_to, make_file, open_file};
 use crate::denials::{explain_file, refuse_sheet};
 use crate::files::{argument, argument_count, read_argument};
-use crate::head::front_sets;
+use crate::head::Actions;
 use crate::joined::print_made;
-use crate::rooms::{room_for_actions, room_for_table, room_for_tables};
+use crate::rooms::TABLES_LENGTH;
 use crate::tables::print_table;
 use crate::told::{tell, tell_number, warn, warn_number};
-use catalogue::{
-    HELP, IN_FILE, JOINED_SHEET, NO_SUCH_WORD, ONE_FILE, OTHER_ACTIONS, SOME_FILE, SOME_FILES,
-};
-use compiler::{Compiled, refusal_number, refusal_spot};
-use fields::{field_at, front, part};
-use lexer::same;
+use base::room;
+use catalogue::Message;
+use compiler::CompileError;
+use fields::front;
 use rule_lines::is_sheet;
+use table::LARGEST_TABLE;
 
 // A command that is wrong: what is, and what there is.
-fn refuse_command(rt: &HostRuntime, message: usize, word: &[u8]) {
+fn refuse_command(rt: &HostRuntime, message: Message, word: &[u8]) {
     warn(rt, message, 0, word);
-    warn_number(rt, HELP, 0);
+    warn_number(rt, Message::Help, 0);
 }
 
 // Compiles a sheet, and prints its table or what is refused.
 fn compile_sheet(rt: &HostRuntime, sheet: &[u8]) {
-    let mut table = room_for_table();
-    if let Compiled::Refused(refusal) = compile_to(rt, sheet, &mut table) {
-        refuse_sheet(rt, refusal_number(refusal), refusal_spot(refusal));
-        return;
+    let mut table = room::<u8, LARGEST_TABLE>(0);
+    match compile_to(sheet, &mut table) {
+        Err(CompileError::Refused(refusal)) => refuse_sheet(rt, refusal.number(), refusal.spot()),
+        _ => print_table(rt, &table),
     }
-    print_table(rt, &table);
 }
 
 // Compiles the rules of a rule file, and prints their table or what is refused.
 fn compile_rules(rt: &HostRuntime, file: &[u8]) {
-    let mut sets = room_for_actions();
-    let count = open_file(rt, file, &mut sets);
-    if count == 0 {
+    let Some(actions) = open_file(rt, file) else {
         return;
+    };
+    let mut tables = room::<u8, TABLES_LENGTH>(0);
+    if let Some(made) = make_file(rt, file, actions.sets(), &mut tables, Made::nothing()) {
+        print_made(rt, made, &tables);
     }
-    let mut tables = room_for_tables();
-    let made = make_file(rt, file, front_sets(&sets, count), &mut tables, none_made());
-    print_made(rt, made, &tables);
 }
 
 fn compile_file(rt: &HostRuntime, file: &[u8]) {
@@ -54,143 +51,95 @@ fn compile_file(rt: &HostRuntime, file: &[u8]) {
 }
 
 fn compile(rt: &HostRuntime) {
+    if 3 < argument_count(rt) {
+        refuse_command(rt, Message::OneFile, b"");
+        return;
+    }
     let mut name = [0u8; 4096];
-    let mut room = standard_streams::large_buffer();
-    let read = read_argument(rt, 2, &mut name, &mut room);
-    if read.done {
-        compile_file(rt, front(&room, read.length));
+    let mut area = standard_streams::large_buffer();
+    if let Some(read) = read_argument(rt, 2, &mut name, &mut area) {
+        compile_file(rt, front(&area, read.length));
     }
 }
 
-// Whether two action lists are the same.
-fn same_sets(first: &[u16], second: &[u16]) -> bool {
-    if first.len() != second.len() {
-        return false;
-    }
-    let mut k = 0;
-    while k < first.len() {
-        if first[k] != second[k] {
-            return false;
+// Whether a file has the actions of the first file; those of the first file are kept.
+fn agree(first: &mut Option<Actions>, actions: Actions) -> bool {
+    match *first {
+        Some(known) => known.sets() == actions.sets(),
+        None => {
+            *first = Some(actions);
+            true
         }
-        k += 1;
-    }
-    true
-}
-
-fn keep(sets: &mut [u16], number: usize, set: u16) {
-    if number < sets.len() {
-        sets[number] = set;
     }
 }
 
-// Keeps the action list of the first file.
-fn keep_sets(first: &mut [u16], sets: &[u16]) {
-    let mut k = 0;
-    while k < sets.len() {
-        keep(first, k, sets[k]);
-        k += 1;
-    }
-}
-
-// Whether a file has the actions of the files before it, whose number is known; those of the first file are kept.
-fn agree(sets: &[u16], first: &mut [u16], known: usize) -> bool {
-    if known == 0 {
-        keep_sets(first, sets);
-        return true;
-    }
-    same_sets(sets, front_sets(first, known))
-}
-
-// Makes the tables of one file more, whose actions are read.
-fn join_rules(
-    rt: &HostRuntime,
-    name: &[u8],
-    file: &[u8],
-    sets: &[u16],
-    tables: &mut [u8],
-    made: Made,
-) -> Made
-    requires { (8256 ≡ length tables.old) × (made.count ≤ 8) × (made.end ≤ 1032 * made.count) }
-    ensures { (result.count ≤ 8) × (result.end ≤ 1032 * result.count) }
-{
-    let next = make_file(rt, file, sets, tables, over_actions(made, sets.len()));
-    if next.refused {
-        tell(rt, IN_FILE, 0, 0, name);
-    }
-    next
-}
-
+// Makes the tables of one file more, after those that are made. Tells why where the file is refused.
 fn join_file(
     rt: &HostRuntime,
     name: &[u8],
     file: &[u8],
-    first: &mut [u16],
+    first: &mut Option<Actions>,
     tables: &mut [u8],
     made: Made,
-) -> Made
-    requires { (8256 ≡ length tables.old) × (made.count ≤ 8) × (made.end ≤ 1032 * made.count) }
-    ensures { (result.count ≤ 8) × (result.end ≤ 1032 * result.count) }
+) -> Option<Made>
+    requires { 8256 ≡ length tables.old }
 {
     if is_sheet(file) {
-        refuse_command(rt, JOINED_SHEET, name);
-        return refused(made);
+        refuse_command(rt, Message::JoinedSheet, name);
+        return None;
     }
-    let mut sets = room_for_actions();
-    let count = open_file(rt, file, &mut sets);
-    if count == 0 {
-        tell(rt, IN_FILE, 0, 0, name);
-        return refused(made);
+    let Some(actions) = open_file(rt, file) else {
+        tell(rt, Message::InFile, 0, 0, name);
+        return None;
+    };
+    if !agree(first, actions) {
+        refuse_command(rt, Message::OtherActions, name);
+        return None;
     }
-    if agree(front_sets(&sets, count), first, made.actions) {
-        return join_rules(rt, name, file, front_sets(&sets, count), tables, made);
+    let next = make_file(rt, file, actions.sets(), tables, made);
+    if next.is_none() {
+        tell(rt, Message::InFile, 0, 0, name);
     }
-    refuse_command(rt, OTHER_ACTIONS, name);
-    refused(made)
+    next
 }
 
 // The file that an argument names.
 fn join_argument(
     rt: &HostRuntime,
     number: usize,
-    first: &mut [u16],
+    first: &mut Option<Actions>,
     tables: &mut [u8],
     made: Made,
-) -> Made
-    requires { (8256 ≡ length tables.old) × (made.count ≤ 8) × (made.end ≤ 1032 * made.count) }
-    ensures { (result.count ≤ 8) × (result.end ≤ 1032 * result.count) }
+) -> Option<Made>
+    requires { 8256 ≡ length tables.old }
 {
     let mut name = [0u8; 4096];
-    let mut room = standard_streams::large_buffer();
-    let read = read_argument(rt, number, &mut name, &mut room);
-    if read.done {
-        return join_file(
-            rt,
-            front(&name, read.named),
-            front(&room, read.length),
-            first,
-            tables,
-            made,
-        );
-    }
-    refused(made)
+    let mut area = standard_streams::large_buffer();
+    let read = read_argument(rt, number, &mut name, &mut area)?;
+    join_file(
+        rt,
+        front(&name, read.named),
+        front(&area, read.length),
+        first,
+        tables,
+        made,
+    )
 }
 
 fn join(rt: &HostRuntime) {
     let arguments = argument_count(rt);
     if arguments < 3 {
-        refuse_command(rt, SOME_FILES, b"");
+        refuse_command(rt, Message::SomeFiles, b"");
         return;
     }
-    let mut first = room_for_actions();
-    let mut tables = room_for_tables();
-    let mut made = none_made();
-    let mut number = 2;
-    while number < arguments {
-        made = join_argument(rt, number, &mut first, &mut tables, made);
-        if made.refused {
+    let mut first = None;
+    let mut tables = room::<u8, TABLES_LENGTH>(0);
+    let mut made = Made::nothing();
+    for number in 2..arguments {
+        let Some(next) = join_argument(rt, number, &mut first, &mut tables, made) else {
             return;
-        }
-        number += 1;
+        };
+        made = next;
     }
     print_made(rt, made, &tables);
 }
@@ -199,7 +148,7 @@ fn join(rt: &HostRuntime) {
 fn add_argument(rt: &HostRuntime, number: usize, line: &mut [u8], end: usize) -> usize {
     let mut word = [0u8; 4096];
     let length = argument(rt, number, &mut word);
-    let next = messages::put(32, line, end);
+    let next = messages::put(b' ', line, end);
     if length == 0 {
         return messages::put(b'?', line, next);
     }
@@ -212,10 +161,8 @@ fn read_line(rt: &HostRuntime, arguments: usize, line: &mut [u8]) -> usize {
         return standard_streams::read_full(rt, line);
     }
     let mut end = 0;
-    let mut number = 3;
-    while number < arguments {
+    for number in 3..arguments {
         end = add_argument(rt, number, line, end);
-        number += 1;
     }
     end
 }
@@ -229,50 +176,23 @@ fn explain_asked(rt: &HostRuntime, arguments: usize, file: &[u8]) {
 fn explain(rt: &HostRuntime) {
     let arguments = argument_count(rt);
     if arguments < 3 {
-        refuse_command(rt, SOME_FILE, b"");
+        refuse_command(rt, Message::SomeFile, b"");
         return;
     }
     let mut name = [0u8; 4096];
-    let mut room = standard_streams::large_buffer();
-    let read = read_argument(rt, 2, &mut name, &mut room);
-    if read.done {
-        explain_asked(rt, arguments, front(&room, read.length));
+    let mut area = standard_streams::large_buffer();
+    if let Some(read) = read_argument(rt, 2, &mut name, &mut area) {
+        explain_asked(rt, arguments, front(&area, read.length));
     }
-}
-
-// The number of a word among those that there are.
-fn command_number(word: &[u8]) -> usize {
-    let words = b"help|compile|join|explain|";
-    let mut k = 0;
-    while k < 4 {
-        let span = field_at(words, b'|', k);
-        if same(part(words, span.from, span.to), word) {
-            return k;
-        }
-        k += 1;
-    }
-    4
 }
 
 // Does what the word says.
 pub(crate) fn run(rt: &HostRuntime, word: &[u8]) {
-    if word.len() == 0 {
-        tell_number(rt, HELP, 0, 0);
-        return;
+    match word {
+        b"" | b"help" => tell_number(rt, Message::Help, 0, 0),
+        b"compile" => compile(rt),
+        b"join" => join(rt),
+        b"explain" => explain(rt),
+        _ => refuse_command(rt, Message::NoSuchWord, word),
     }
-    match command_number(word) {
-        0 => tell_number(rt, HELP, 0, 0),
-        1 => compile_one(rt),
-        2 => join(rt),
-        3 => explain(rt),
-        _ => refuse_command(rt, NO_SUCH_WORD, word),
-    }
-}
-
-fn compile_one(rt: &HostRuntime) {
-    if 3 < argument_count(rt) {
-        refuse_command(rt, ONE_FILE, b"");
-        return;
-    }
-    compile(rt);
 }

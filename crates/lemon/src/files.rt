@@ -2,29 +2,20 @@
 ghost use Rattle.std.specs.Prelude.{◌≡◌, ◌≤◌, length};
 
 use crate::told::warn;
-use catalogue::NO_SUCH_FILE;
+use catalogue::Message;
 use fields::front;
-use lexer::same;
 use std::io::Read;
 use std::{env, fs, str};
 
-// What reading a file gives: how many bytes its name has and it has, and whether it could be read.
+// A file that was read: how many bytes its name has, and how many it has.
 #[derive(Clone, Copy)]
 pub(crate) struct FileRead {
     pub named: usize,
     pub length: usize,
-    pub done: bool,
-}
-
-// How many bytes were put at the front, and whether every read went well.
-#[derive(Clone, Copy)]
-struct Filled {
-    length: usize,
-    well: bool,
 }
 
 fn is_standard_input(name: &[u8]) -> bool {
-    (name.len() == 0) | same(name, b"-")
+    name.is_empty() || name == b"-".as_slice()
 }
 
 // The words of the command, with its own name; none where they cannot be had.
@@ -35,26 +26,20 @@ pub(crate) fn argument_count(rt: &HostRuntime) -> usize {
     }
 }
 
-// A word put at the front, and its length: 0 where there is none or it does not fit.
+// A word put at the front, and its length: 0 where it does not fit.
 fn put_word(word: &[u8], to: &mut [u8]) -> usize
-    ensures bound { result ≤ length to.old }
-    ensures long { length to.new ≡ length to.old }
+    ensures { result ≤ length to.old }
 {
     if word.len() > to.len() {
         return 0;
     }
-    let mut k = 0;
-    while k < word.len() {
-        to[k] = word[k];
-        k += 1;
-    }
+    to[..word.len()].copy_from_slice(word);
     word.len()
 }
 
-// A word of the command by its number, put at the front.
+// A word of the command by its number, put at the front, and its length: 0 where there is none or it does not fit.
 pub(crate) fn argument(rt: &HostRuntime, number: usize, to: &mut [u8]) -> usize
-    ensures bound { result ≤ length to.old }
-    ensures long { length to.new ≡ length to.old }
+    ensures { result ≤ length to.old }
 {
     match env::args(rt) {
         Ok(mut words) => match words.nth(number) {
@@ -65,76 +50,41 @@ pub(crate) fn argument(rt: &HostRuntime, number: usize, to: &mut [u8]) -> usize
     }
 }
 
-fn read_some(input: &mut impl Read, to: &mut [u8]) -> Filled
-    ensures bound { result.length ≤ length to.old }
-    ensures long { length to.new ≡ length to.old }
-{
-    match input.read(to) {
-        Ok(length) => Filled { length, well: true },
-        Err(_) => Filled {
-            length: 0,
-            well: false,
-        },
-    }
-}
-
-// Reads until `to` is full or a read gives nothing.
-fn read_from(input: &mut impl Read, to: &mut [u8]) -> Filled
-    ensures bound { result.length ≤ length to.old }
-    ensures long { length to.new ≡ length to.old }
-{
+// Reads until `to` is full, the input ends or a read fails, and answers how many bytes it put at the front; none where the first read fails.
+fn read_from(input: &mut impl Read, to: &mut [u8]) -> Option<usize> {
     let mut length = 0;
     while length < to.len() {
-        let read = read_some(input, &mut to[length..]);
-        if read.length == 0 {
-            return Filled {
-                length,
-                well: read.well,
-            };
+        match input.read(&mut to[length..]) {
+            Ok(0) => break,
+            Ok(count) => length += count,
+            Err(_) => {
+                if length == 0 {
+                    return None;
+                }
+                break;
+            }
         }
-        length += read.length;
     }
-    Filled { length, well: true }
+    Some(length)
 }
 
-fn not_read(rt: &HostRuntime, name: &[u8]) -> FileRead {
-    warn(rt, NO_SUCH_FILE, 0, name);
-    FileRead {
-        named: 0,
-        length: 0,
-        done: false,
-    }
+// Reads a file of this name to the front of `file`, and answers its length.
+fn read_named(rt: &HostRuntime, name: &[u8], file: &mut [u8]) -> Option<usize> {
+    let path = str::from_utf8(name).ok()?;
+    let mut opened = fs::open(rt, path).ok()?;
+    read_from(&mut opened, file)
 }
 
-// Reads a file of this name to the front of `file`. Tells where it cannot be read.
-fn read_named(rt: &HostRuntime, name: &[u8], file: &mut [u8]) -> FileRead {
-    let Ok(path) = str::from_utf8(name) else {
-        return not_read(rt, name);
-    };
-    let Ok(mut opened) = fs::open(rt, path) else {
-        return not_read(rt, name);
-    };
-    let read = read_from(&mut opened, file);
-    if (read.length == 0) & !read.well {
-        return not_read(rt, name);
-    }
-    FileRead {
-        named: 0,
-        length: read.length,
-        done: true,
-    }
-}
-
-// The same, or standard input where the name is `-` or is not there.
-fn read_file(rt: &HostRuntime, name: &[u8], file: &mut [u8]) -> FileRead {
+// The same, or standard input where the name is `-` or is not there. Tells where the file cannot be read.
+fn read_file(rt: &HostRuntime, name: &[u8], file: &mut [u8]) -> Option<usize> {
     if is_standard_input(name) {
-        return FileRead {
-            named: 0,
-            length: standard_streams::read_full(rt, file),
-            done: true,
-        };
+        return Some(standard_streams::read_full(rt, file));
     }
-    read_named(rt, name, file)
+    let read = read_named(rt, name, file);
+    if read.is_none() {
+        warn(rt, Message::NoSuchFile, 0, name);
+    }
+    read
 }
 
 // Reads the file that an argument names, and keeps the name.
@@ -143,12 +93,8 @@ pub(crate) fn read_argument(
     number: usize,
     name: &mut [u8],
     file: &mut [u8],
-) -> FileRead {
+) -> Option<FileRead> {
     let named = argument(rt, number, name);
-    let read = read_file(rt, front(name, named), file);
-    FileRead {
-        named,
-        length: read.length,
-        done: read.done,
-    }
+    let length = read_file(rt, front(name, named), file)?;
+    Some(FileRead { named, length })
 }

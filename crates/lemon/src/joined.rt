@@ -1,66 +1,56 @@
 // Several rules as one table.
 use crate::compiling::Made;
-use crate::rooms::{room_for_bytes, room_for_table, room_for_values};
 use crate::tables::print_table;
 use crate::told::{tell_number, tell_of_rule, tell_refused};
-use catalogue::{JOINED_ROWS, JOINED_VALUES, WATCHED_JOINED};
+use base::room;
+use catalogue::Message;
 use fields::front;
-use joining::Joined;
+use joining::JoinError;
+use limits::{NUMBERS_LENGTH, WORK_LENGTH};
+use table::LARGEST_TABLE;
 
-// The number of a refusal; 0 of a table.
-fn refusal_of(joined: Joined) -> usize {
-    match joined {
-        Joined::Table {
-            actions: _,
-            rows: _,
-        } => 0,
-        Joined::ShortArea => 14,
-        Joined::WrongCount => 2,
-        Joined::Malformed => 10,
-        Joined::NotCanonical => 11,
-        Joined::WatchedTable => 34,
-        Joined::OtherActions => 23,
-        Joined::TooManyValues => 8,
-        Joined::TooManyRows => 9,
-    }
-}
-
-fn tell_refusal(rt: &HostRuntime, number: usize, made: Made) {
-    tell_refused(rt, number, 0);
-    if number == 34 {
-        tell_of_rule(rt, made.watched_rule, WATCHED_JOINED, made.watched_line, 0);
-    }
-    if number == 8 {
-        tell_number(rt, JOINED_VALUES, made.count, 0);
-    }
-    if number == 9 {
-        tell_number(rt, JOINED_ROWS, made.count, 0);
+// Why tables are not joined.
+fn tell_error(rt: &HostRuntime, error: JoinError, made: Made) {
+    match error {
+        JoinError::ShortArea => tell_refused(rt, 14, 0),
+        JoinError::WrongCount => tell_refused(rt, 2, 0),
+        JoinError::Malformed => tell_refused(rt, 10, 0),
+        JoinError::NotCanonical => tell_refused(rt, 11, 0),
+        JoinError::OtherActions => tell_refused(rt, 23, 0),
+        JoinError::WatchedTable => {
+            tell_refused(rt, 34, 0);
+            if let Some(watched) = made.watched {
+                tell_of_rule(rt, watched.rule, Message::WatchedJoined, watched.line, 0);
+            }
+        }
+        JoinError::TooManyValues => {
+            tell_refused(rt, 8, 0);
+            tell_number(rt, Message::JoinedValues, made.count, 0);
+        }
+        JoinError::TooManyRows => {
+            tell_refused(rt, 9, 0);
+            tell_number(rt, Message::JoinedRows, made.count, 0);
+        }
     }
 }
 
 // Joins the tables that are made, and prints the answer.
 fn print_joined(rt: &HostRuntime, made: Made, tables: &[u8]) {
-    let mut table = room_for_table();
-    let mut work = room_for_bytes();
-    let mut values = room_for_values();
-    let joined = joining::join(made.count, tables, &mut table, &mut work, &mut values);
-    let number = refusal_of(joined);
-    if number == 0 {
-        print_table(rt, &table);
-        return;
+    let mut table = room::<u8, LARGEST_TABLE>(0);
+    let mut work = room::<u8, WORK_LENGTH>(0);
+    let mut values = room::<u64, NUMBERS_LENGTH>(0);
+    match joining::join(made.count, tables, &mut table, &mut work, &mut values) {
+        Ok(_) => print_table(rt, &table),
+        Err(error) => tell_error(rt, error, made),
     }
-    tell_refusal(rt, number, made);
 }
 
-// Prints what is made: the only table, or all of them joined. What is refused is told already.
+// Prints what is made: the only table, or all of them joined.
 pub(crate) fn print_made(rt: &HostRuntime, made: Made, tables: &[u8]) {
-    if made.refused {
-        return;
-    }
-    let end = made.end;
+    let written = front(tables, made.end);
     if made.count == 1 {
-        print_table(rt, front(tables, end));
-        return;
+        print_table(rt, written);
+    } else {
+        print_joined(rt, made, written);
     }
-    print_joined(rt, made, front(tables, end));
 }

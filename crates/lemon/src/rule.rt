@@ -3,11 +3,11 @@ ghost use Rattle.std.specs.Prelude.{◌≤◌, length};
 
 use crate::told::{tell_of_rule, tell_of_sheet, tell_of_word, tell_refused, tell_unreadable};
 use action_lists::{action_named, is_name};
-use catalogue::{LONG_RULE, MANY_NODES, MANY_ROWS, MANY_VALUES};
-use compiler::{Refusal, refusal_number, refusal_spot};
-use fields::{Span, front, part};
+use catalogue::Message;
+use compiler::Refusal;
+use fields::{front, part};
 use grammar::Category;
-use parser::TextRead;
+use parser::TextError;
 use part_words::words_before;
 use positions::{word_at, word_of};
 use rule_lines::{line_of, rule_end, trimmed};
@@ -21,20 +21,8 @@ pub(crate) struct Rule {
     pub to: usize,
 }
 
-fn plus(a: usize, b: usize) -> usize {
-    if 999999 < a {
-        return 999999;
-    }
-    if 999999 < b {
-        return 999999;
-    }
-    a + b
-}
-
 pub(crate) fn text_of(file: &[u8], rule: Rule) -> &[u8] {
-    let from = rule.from;
-    let to = rule.to;
-    part(file, from, to)
+    part(file, rule.from, rule.to)
 }
 
 // The rule that begins here, the one of this number in its file.
@@ -43,31 +31,29 @@ pub(crate) fn rule_at(file: &[u8], from: usize, number: usize) -> Rule
     ensures { result.to ≤ length file.now }
 {
     let to = rule_end(file, from);
-    if (number == 1) & (to == file.len()) {
-        return Rule {
-            number: 0,
-            from,
-            to,
-        };
+    let alone = number == 1 && to == file.len();
+    Rule {
+        number: if alone { 0 } else { number },
+        from,
+        to,
     }
-    Rule { number, from, to }
 }
 
 // The line of a word; where there is no such word, that of the last one before it.
 pub(crate) fn word_line(file: &[u8], rule: Rule, words: usize) -> usize {
     let span = word_at(text_of(file, rule), words);
-    if span.from == span.to {
+    if span.is_empty() {
         return line_of(file, trimmed(front(file, rule.to)));
     }
-    line_of(file, plus(rule.from, span.from))
+    line_of(file, rule.from.saturating_add(span.from))
 }
 
 // The word of the action list that has this name; nothing where none has it.
-fn listed_word(list: &[u8], word: &[u8]) -> Span {
+fn listed_word<'a>(list: &'a [u8], word: &[u8]) -> &'a [u8] {
     if is_name(word) {
-        return word_at(list, action_named(list, word));
+        return word_of(list, action_named(list, word));
     }
-    Span { from: 0, to: 0 }
+    &[]
 }
 
 // 32, after so many words.
@@ -89,74 +75,34 @@ fn tell_misfit(
         following(words),
         word,
         expected,
-        part(list, listed.from, listed.to),
+        listed,
     );
 }
 
-// What reading a text gives: the length of its sheet; or 0 and a refusal, with what was to come at its spot.
-#[derive(Clone, Copy)]
-struct Outcome {
-    length: usize,
-    number: usize,
-    spot: usize,
-    expected: Category,
-}
-
-fn refused(number: usize) -> Outcome {
-    Outcome {
-        length: 0,
-        number,
-        spot: 0,
-        expected: Category::End,
-    }
-}
-
-fn outcome_of(read: TextRead) -> Outcome {
-    match read {
-        TextRead::Sheet {
-            length,
-            actions: _,
-            nodes: _,
-        } => Outcome {
-            length,
-            number: 0,
-            spot: 0,
-            expected: Category::End,
-        },
-        TextRead::ShortArea => refused(14),
-        TextRead::Actions => refused(2),
-        TextRead::LongText => refused(31),
-        TextRead::Unreadable(spot, expected) => Outcome {
-            length: 0,
-            number: 32,
-            spot,
-            expected,
-        },
-        TextRead::TooManyNodes => refused(33),
-    }
-}
-
 // What a refusal of a text says.
-fn tell_outcome(rt: &HostRuntime, outcome: Outcome, file: &[u8], rule: Rule, list: &[u8]) {
-    let number = outcome.number;
-    let spot = outcome.spot;
-    let expected = outcome.expected;
-    tell_refused(rt, number, spot);
-    if number == 32 {
-        tell_misfit(rt, file, rule, spot, expected, list);
-        return;
-    }
+fn tell_error(rt: &HostRuntime, error: TextError, file: &[u8], rule: Rule, list: &[u8]) {
     let line = word_line(file, rule, 0);
-    if number == 31 {
-        tell_of_rule(rt, rule.number, LONG_RULE, line, text_of(file, rule).len());
-    }
-    if number == 33 {
-        tell_of_rule(rt, rule.number, MANY_NODES, line, 0);
+    match error {
+        TextError::ShortArea => tell_refused(rt, 14, 0),
+        TextError::Actions => tell_refused(rt, 2, 0),
+        TextError::LongText => {
+            tell_refused(rt, 31, 0);
+            let length = text_of(file, rule).len();
+            tell_of_rule(rt, rule.number, Message::LongRule, line, length);
+        }
+        TextError::Unreadable(spot, expected) => {
+            tell_refused(rt, 32, spot);
+            tell_misfit(rt, file, rule, spot, expected, list);
+        }
+        TextError::TooManyNodes => {
+            tell_refused(rt, 33, 0);
+            tell_of_rule(rt, rule.number, Message::ManyNodes, line, 0);
+        }
     }
 }
 
-// Reads a rule to a sheet at the front of `sheet`, and answers its length. The action list is given as it stands in the file too. Where the rule is
-// refused tells why, and answers 0.
+// Reads a rule to a sheet at the front of `sheet`, and answers its length. The action list is given as it stands in the file too. Tells why where the
+// rule is refused.
 pub(crate) fn read_rule(
     rt: &HostRuntime,
     file: &[u8],
@@ -164,16 +110,18 @@ pub(crate) fn read_rule(
     actions: &[u16],
     list: &[u8],
     sheet: &mut [u8],
-) -> usize {
-    let outcome = outcome_of(parser::read_text(text_of(file, rule), actions, sheet));
-    if outcome.length == 0 {
-        tell_outcome(rt, outcome, file, rule, list);
+) -> Option<usize> {
+    match parser::read_text(text_of(file, rule), actions, sheet) {
+        Ok(read) => Some(read.length),
+        Err(error) => {
+            tell_error(rt, error, file, rule, list);
+            None
+        }
     }
-    outcome.length
 }
 
 // 8 and 9 of a rule: the word of the node that grows too large.
-fn tell_size(rt: &HostRuntime, file: &[u8], rule: Rule, words: usize, message: usize) {
+fn tell_size(rt: &HostRuntime, file: &[u8], rule: Rule, words: usize, message: Message) {
     let line = word_line(file, rule, words);
     tell_of_word(
         rt,
@@ -185,7 +133,7 @@ fn tell_size(rt: &HostRuntime, file: &[u8], rule: Rule, words: usize, message: u
     );
 }
 
-// What the compiler refuses of the sheet of a rule: 8 or 9.
+// What the compiler refuses of the sheet of a rule.
 pub(crate) fn tell_refusal(
     rt: &HostRuntime,
     refusal: Refusal,
@@ -193,17 +141,18 @@ pub(crate) fn tell_refusal(
     rule: Rule,
     sheet: &[u8],
 ) {
-    let number = refusal_number(refusal);
-    let spot = refusal_spot(refusal);
+    let number = refusal.number();
+    let spot = refusal.spot();
     tell_refused(rt, number, spot);
-    if number < 8 {
-        tell_of_sheet(rt, number, spot);
-        return;
-    }
-    let words = words_before(sheet, spot);
-    if number == 8 {
-        tell_size(rt, file, rule, words, MANY_VALUES);
-    } else {
-        tell_size(rt, file, rule, words, MANY_ROWS);
+    match refusal {
+        Refusal::Faulty(_) => tell_of_sheet(rt, number, spot),
+        Refusal::TooManyValues(node) => {
+            let words = words_before(sheet, node);
+            tell_size(rt, file, rule, words, Message::ManyValues);
+        }
+        Refusal::TooManyRows(node) => {
+            let words = words_before(sheet, node);
+            tell_size(rt, file, rule, words, Message::ManyRows);
+        }
     }
 }

@@ -1,8 +1,7 @@
 // Tables printed, with notes on standard error where a table says less than its rule seems to.
 use crate::told::warn_number;
-use catalogue::{DENIES_ALL, DENIES_NOTHING, NEVER_REPORTED, REPORTED_AT_ONCE};
+use catalogue::Message;
 use fields::{front, part};
-use told_messages::any_between;
 use trace::Mode;
 
 fn byte_at(bytes: &[u8], at: usize) -> u8 {
@@ -11,38 +10,42 @@ fn byte_at(bytes: &[u8], at: usize) -> u8 {
 
 fn mode_of(table: &[u8]) -> Mode {
     if byte_at(table, 0) == 2 {
-        return Mode::Watched;
-    }
-    Mode::Enforced
-}
-
-fn note(rt: &HostRuntime, watched: bool, of_watched: usize, of_enforced: usize) {
-    if watched {
-        warn_number(rt, of_watched, 0);
+        Mode::Watched
     } else {
-        warn_number(rt, of_enforced, 0);
+        Mode::Enforced
     }
 }
 
 // Notes of a table that has no trip, or that trips at the first action, whatever it is.
-fn note_table(rt: &HostRuntime, watched: bool, first_row: &[u8], entries: &[u8]) {
-    if any_between(entries, 255, 255) {
-        if any_between(first_row, 0, 254) {
-            return;
-        }
-        note(rt, watched, REPORTED_AT_ONCE, DENIES_ALL);
+fn note_table(rt: &HostRuntime, mode: Mode, first_row: &[u8], entries: &[u8]) {
+    let watched = mode == Mode::Watched;
+    if !entries.contains(&255) {
+        let note = if watched {
+            Message::NeverReported
+        } else {
+            Message::DeniesNothing
+        };
+        warn_number(rt, note, 0);
         return;
     }
-    note(rt, watched, NEVER_REPORTED, DENIES_NOTHING);
+    if first_row.iter().all(|entry| *entry == 255) {
+        let note = if watched {
+            Message::ReportedAtOnce
+        } else {
+            Message::DeniesAll
+        };
+        warn_number(rt, note, 0);
+    }
 }
 
 // Prints a table, which its bytes are.
 pub(crate) fn print_table(rt: &HostRuntime, table: &[u8]) {
-    let actions = base::byte(byte_at(table, 2));
-    let rows = base::byte(byte_at(table, 4));
+    let mode = mode_of(table);
+    let actions = usize::from(byte_at(table, 2));
+    let rows = usize::from(byte_at(table, 4));
     let entries = part(table, 8, table.len());
     let mut text = printing::room();
-    let printed = printing::print_table(mode_of(table), actions, rows, entries, &mut text);
+    let printed = printing::print_table(mode, actions, rows, entries, &mut text);
     standard_streams::write_all(rt, printing::written(printed, &text));
-    note_table(rt, byte_at(table, 0) == 2, front(entries, actions), entries);
+    note_table(rt, mode, front(entries, actions), entries);
 }

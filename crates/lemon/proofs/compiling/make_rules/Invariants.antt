@@ -1,11 +1,6 @@
--- `lemon::compiling::make_rules` meets its contract.
-use mathlib.Core.Path.{◌≡◌}
-use Prim.Native.Nat.{◌*◌, ◌-◌, ◌≤◌}
-use lib.ListN.{length}
+-- `lemon::compiling::make_rules`: the next rule begins within the file, and each rule so far has made a table.
+use Rattle.std.proofs.Common.{◌≡◌, ◌+◌, ◌≤◌, length}
 use Rattle.lemon.proofs.compiling.make_rules.Given as goal
 
-abbrev pub invariant-loop-made : goal.invariant-loop-made
-invariant-loop-made l = (l.made.count ≤ 8) × (l.made.end ≤ 1032 * l.made.count) × (l.from ≤ length l.file) × (length l.tables ≡ 8256)
-
-abbrev pub decreases-loop-made : goal.decreases-loop-made
-decreases-loop-made l = 8 - l.made.count
+abbrev pub invariant-loop-number : goal.invariant-loop-number
+invariant-loop-number l = (l.from ≤ length l.file) × (l.made.count + 1 ≡ l.fn.before.count + l.number)

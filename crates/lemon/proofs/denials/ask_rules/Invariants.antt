@@ -1,10 +1,6 @@
--- `lemon::denials::ask_rules` meets its contract.
-use Prim.Native.Nat.{◌-◌, ◌≤◌}
-use lib.ListN.{length}
+-- `lemon::denials::ask_rules`: the next rule begins within the file.
+use Rattle.std.proofs.Common.{◌≤◌, length}
 use Rattle.lemon.proofs.denials.ask_rules.Given as goal
 
 abbrev pub invariant-loop-number : goal.invariant-loop-number
-invariant-loop-number l = (l.from ≤ length l.file) × (l.number ≤ 9)
-
-abbrev pub decreases-loop-number : goal.decreases-loop-number
-decreases-loop-number l = 9 - l.number
+invariant-loop-number l = l.from ≤ length l.file
