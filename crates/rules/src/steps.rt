@@ -12,7 +12,8 @@ ghost use Rattle.rules.specs.Steps.{code_step, code_step_of, code_start};
 use crate::parts::{entry_at, part_move};
 use crate::{NodeRule, PartRows};
 
-// A value is put together from bytes (specs/Codes.antt): one further up counts 256 times as much.
+// A value is put together from bytes (specs/Codes.antt): one further up counts 256 times as much. It stays one number of 64 bits for every
+// kind, since the theorems of specs/Codes.antt and specs/Steps.antt are about that number, and a list of values is fixed memory.
 const BYTE: u64 = 256;
 // A part that has tripped, in a byte; and two of them.
 const TRIPPED: u64 = 255;
