@@ -1,24 +1,13 @@
 // What is asked, and how a denial is told.
-ghost use Rattle.std.specs.Prelude.{◌≡◌, length};
-
 use crate::list::say_name;
-use explaining::Explained;
-use rule_files::{
-    byte_at, following, kind_of, room_for_bytes, room_for_values, say, say_kind, say_number,
-    say_part,
-};
-
-fn room_for_place() -> [u64; 1]
-    ensures { 1 ≡ length result }
-{
-    [0u64; 1]
-}
+use explaining::{Denial, ExplainError};
+use rule_files::{byte_at, following, kind_of, say, say_kind, say_number, say_part};
 
 // Explains with areas of its own.
-pub(crate) fn ask(sheet: &[u8], list: &[u8]) -> Explained {
-    let mut place = room_for_place();
-    let mut work = room_for_bytes();
-    let mut values = room_for_values();
+pub(crate) fn ask(sheet: &[u8], list: &[u8]) -> Result<Option<Denial>, ExplainError> {
+    let mut place: [u64; 1] = base::room(0);
+    let mut work: [u8; 65536] = base::room(0);
+    let mut values: [u64; 1024] = base::room(0);
     explaining::explain(sheet, list, &mut place, &mut work, &mut values)
 }
 
@@ -35,7 +24,8 @@ pub(crate) fn tell_permitted(rt: &impl Print, count: usize) {
 }
 
 // The denied action, and where it stands in the list.
-pub(crate) fn tell_denied(rt: &impl Print, list: &[u8], names: &[u8], place: usize, node: usize) {
+pub(crate) fn tell_denied(rt: &impl Print, list: &[u8], names: &[u8], denial: Denial) {
+    let Denial { place, node } = denial;
     let action = byte_at(list, place);
     say(rt, b"denied ");
     say_number(rt, place);

@@ -9,17 +9,9 @@ mod list;
 mod sheets;
 mod texts;
 
-ghost use Rattle.std.specs.Prelude.{◌≡◌, length};
-
 // Room for one byte more than is read: longer input fills it.
-fn room_for_file() -> [u8; 196608]
-    ensures { 196608 ≡ length result }
-{
-    [0u8; 196608]
-}
-
 fn main(rt: HostRuntime) {
-    let mut input = room_for_file();
+    let mut input: [u8; 196608] = base::room(0);
     let length = standard_streams::read_full(&rt, &mut input);
     file::answer(&rt, &input[..length]);
 }

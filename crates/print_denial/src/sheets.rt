@@ -1,8 +1,8 @@
 // A list asked of a sheet.
 use crate::denials::{ask, say_denier, say_quoted, tell_denied, tell_permitted};
 use crate::list::refuse_list;
-use compiler::{Refusal, refusal_number, refusal_spot};
-use explaining::Explained;
+use compiler::Refusal;
+use explaining::ExplainError;
 use rule_files::{byte_at, say, say_number, say_refusal};
 use syntax::Fault;
 
@@ -67,24 +67,24 @@ fn tell_refused(rt: &impl Print, refusal: Refusal) {
 // Prints the answer to a list, of which this is the line, asked of a sheet whose actions have these names.
 pub(crate) fn answer_sheet(rt: &impl Print, sheet: &[u8], line: &[u8], list: &[u8], names: &[u8]) {
     match ask(sheet, list) {
-        Explained::NoDenial => tell_permitted(rt, list.len()),
-        Explained::Denied { place, node } => {
-            tell_denied(rt, list, names, place, node);
-            say_denier(rt, sheet, node);
-            say_quoted(rt, sheet, node);
+        Ok(None) => tell_permitted(rt, list.len()),
+        Ok(Some(denial)) => {
+            tell_denied(rt, list, names, denial);
+            say_denier(rt, sheet, denial.node);
+            say_quoted(rt, sheet, denial.node);
         }
-        Explained::ShortArea => say_refusal(rt, 14, 0),
-        Explained::Refused(refusal) => {
-            say_refusal(rt, refusal_number(refusal), refusal_spot(refusal));
+        Err(ExplainError::ShortArea) => say_refusal(rt, 14, 0),
+        Err(ExplainError::Refused(refusal)) => {
+            say_refusal(rt, refusal.number(), refusal.spot());
             tell_refused(rt, refusal);
         }
-        Explained::WatchedSheet => {
+        Err(ExplainError::WatchedSheet) => {
             say_refusal(rt, 34, 0);
             say(
                 rt,
                 b"a watched sheet denies nothing: ask of an enforced one\n",
             );
         }
-        Explained::NoAction => refuse_list(rt, line, list, names, byte_at(sheet, 0)),
+        Err(ExplainError::NoAction) => refuse_list(rt, line, list, names, byte_at(sheet, 0)),
     }
 }

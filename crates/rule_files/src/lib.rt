@@ -17,11 +17,11 @@ pub use actions::{WrongWord, action_named, is_doubled, is_name, name_at, read_ac
 pub use head::read_head;
 pub use nodes::{byte_at, kind_of, say_kind, say_part, words_before};
 pub use output::{say, say_number, say_refusal, say_word};
-pub use parts::{Part, Place, first_watched, line_behind, part_from};
+pub use parts::{Part, Place, RuleText, first_watched, line_behind, part_from};
 pub use reading::read_rule;
 pub use refusals::{
-    following, refuse_long_file, say_bytes, say_naming, say_rule, say_spot, tell_rules,
-    tell_watched,
+    following, refuse_long_file, refuse_word, say_bytes, say_naming, say_rule, say_spot,
+    tell_rules, tell_watched,
 };
 pub use rooms::front;
 pub use sizes::tell_size;

@@ -10,12 +10,21 @@ pub struct Place {
     pub line: usize,
 }
 
-// Where a rule ends, whether it is the last one of its file, and its place, with the line on which its text begins.
+// The text of a rule, and its place, with the line on which the text begins. Both are small, since a file is.
 #[derive(Clone, Copy)]
-pub struct Part {
+pub struct RuleText<'a> {
+    pub text: &'a [u8],
+    pub place: Place,
+    pub ghost short: { length text.now ≤ 65535 },
+    pub ghost low: { place.line ≤ 65537 },
+}
+
+// A rule of a file, where it ends, and whether it is the last one.
+#[derive(Clone, Copy)]
+pub struct Part<'a> {
+    pub rule: RuleText<'a>,
     pub to: usize,
     pub last: bool,
-    pub place: Place,
 }
 
 // Whether a line separates two rules.
@@ -54,36 +63,34 @@ fn line_of(file: &[u8], at: usize) -> usize
 }
 
 // The rule of this number that begins here.
-pub fn part_from(file: &[u8], from: usize, rule: usize) -> Part
+pub fn part_from<'a>(file: &'a [u8], from: usize, number: usize) -> Part<'a>
     requires { (from ≤ length file.now) × (length file.now ≤ 65535) }
-    ensures { (from ≤ result.to) × (result.to ≤ length file.now) × (result.place.line ≤ 65537) }
+    ensures { (from ≤ result.to) × (result.to ≤ length file.now) }
 {
     let to = rule_end(file, from);
     let last = to == file.len();
-    Part {
-        to,
-        last,
-        place: Place {
-            rule: if rule == 1 && last { None } else { Some(rule) },
-            line: line_of(file, from),
+    let place = Place {
+        rule: if number == 1 && last {
+            None
+        } else {
+            Some(number)
         },
-    }
+        line: line_of(file, from),
+    };
+    let rule = RuleText {
+        text: &file[from..to],
+        place,
+    };
+    Part { rule, to, last }
 }
 
-// The first watched rule of a file, and the line of its first word: the one that was found so far, else this rule, which has this text.
-pub fn first_watched(
-    found: Option<Place>,
-    watched: bool,
-    place: Place,
-    text: &[u8],
-) -> Option<Place>
-    requires { (length text.now ≤ 65535) × (place.line ≤ 65537) }
-{
+// The first watched rule of a file, and the line of its first word: the one that was found so far, else this one.
+pub fn first_watched(found: Option<Place>, watched: bool, rule: RuleText<'_>) -> Option<Place> {
     if found.is_some() || !watched {
         return found;
     }
     Some(Place {
-        rule: place.rule,
-        line: place.line + newlines(text, pass_blanks(text, 0)),
+        rule: rule.place.rule,
+        line: rule.place.line + newlines(rule.text, pass_blanks(rule.text, 0)),
     })
 }

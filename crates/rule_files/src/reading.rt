@@ -1,30 +1,26 @@
 // From a rule's text to its sheet.
-ghost use Rattle.std.specs.Prelude.{◌≤◌, length};
-
 use crate::output::say_refusal;
-use crate::parts::Place;
+use crate::parts::RuleText;
 use crate::refusals::{tell_long, tell_nodes, tell_unreadable};
 use crate::rooms::front;
 use parser::TextError;
 
 // What is refused of a text, and why.
-fn refuse_text(rt: &impl Print, error: TextError, text: &[u8], place: Place, list: &[u8])
-    requires { (length text.now ≤ 65535) × (place.line ≤ 65537) }
-{
+fn refuse_text(rt: &impl Print, error: TextError, rule: RuleText<'_>, list: &[u8]) {
     match error {
         TextError::ShortArea => say_refusal(rt, 14, 0),
         TextError::Actions => say_refusal(rt, 2, 0),
         TextError::LongText => {
             say_refusal(rt, 31, 0);
-            tell_long(rt, text.len(), place);
+            tell_long(rt, rule);
         }
         TextError::Unreadable(words, expected) => {
             say_refusal(rt, 32, words);
-            tell_unreadable(rt, text, place, words, expected, list);
+            tell_unreadable(rt, rule, words, expected, list);
         }
         TextError::TooManyNodes => {
             say_refusal(rt, 33, 0);
-            tell_nodes(rt, place);
+            tell_nodes(rt, rule.place);
         }
     }
 }
@@ -33,18 +29,15 @@ fn refuse_text(rt: &impl Print, error: TextError, text: &[u8], place: Place, lis
 // the text is refused tells why.
 pub fn read_rule<'a>(
     rt: &impl Print,
-    text: &[u8],
-    place: Place,
+    rule: RuleText<'_>,
     actions: &[u16],
     list: &[u8],
     sheet: &'a mut [u8],
-) -> Option<&'a [u8]>
-    requires { (length text.now ≤ 65535) × (place.line ≤ 65537) }
-{
-    match parser::read_text(text, actions, sheet) {
+) -> Option<&'a [u8]> {
+    match parser::read_text(rule.text, actions, sheet) {
         Ok(read) => Some(front(sheet, read.length)),
         Err(error) => {
-            refuse_text(rt, error, text, place, list);
+            refuse_text(rt, error, rule, list);
             None
         }
     }

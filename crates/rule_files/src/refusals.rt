@@ -3,7 +3,7 @@ ghost use Rattle.std.specs.Prelude.{◌≤◌, length};
 
 use crate::actions::{WrongWord, action_named, is_name};
 use crate::output::{say, say_number, say_refusal, say_word};
-use crate::parts::Place;
+use crate::parts::{Place, RuleText};
 use crate::rooms::front;
 use crate::words::{newlines, word_at, word_behind};
 use grammar::Category;
@@ -50,25 +50,43 @@ pub fn say_bytes(rt: &impl Print, word: &[u8]) {
     }
 }
 
-// 2: a word of the action list is none, or has the name of one before it.
-pub fn refuse_action(rt: &impl Print, wrong: WrongWord<'_>) {
+// 2: a word of a list is none that the list can have, or has the name of one before it. It is word `number` of its line. Answers whether it is none.
+pub fn refuse_word(
+    rt: &impl Print,
+    wrong: WrongWord<'_>,
+    line: usize,
+    number: usize,
+    doubled: &[u8],
+    none: &[u8],
+) -> bool {
     say_refusal(rt, 2, 0);
-    say(rt, b"line 1, word ");
-    say_number(rt, following(wrong.behind));
+    say(rt, b"line ");
+    say_number(rt, line);
+    say(rt, b", word ");
+    say_number(rt, number);
     say(rt, b": ");
     say_word(rt, wrong.word);
     if wrong.doubled {
+        say(rt, doubled);
         say(
             rt,
-            b" has the name of an action before it: each action has its own name\n",
+            b" the name of an action before it: each action has its own name\n",
         );
-        return;
+        return false;
     }
-    say(rt, b" is not an action\n");
+    say(rt, none);
     say_bytes(rt, wrong.word);
-    say_action(rt);
-    if wrong.word.contains(&b'=') {
-        say_naming(rt);
+    true
+}
+
+// 2: a word of the action list.
+pub fn refuse_action(rt: &impl Print, wrong: WrongWord<'_>) {
+    let number = following(wrong.behind);
+    if refuse_word(rt, wrong, 1, number, b" has", b" is not an action\n") {
+        say_action(rt);
+        if wrong.word.contains(&b'=') {
+            say_naming(rt);
+        }
     }
 }
 
@@ -115,10 +133,10 @@ pub fn tell_watched(rt: &impl Print, watched: Place, advice: &[u8]) {
 }
 
 // 31.
-pub fn tell_long(rt: &impl Print, length: usize, place: Place) {
-    say_rule(rt, place.rule, b": ");
+pub fn tell_long(rt: &impl Print, rule: RuleText<'_>) {
+    say_rule(rt, rule.place.rule, b": ");
     say(rt, b"the rule has ");
-    say_number(rt, length);
+    say_number(rt, rule.text.len());
     say(
         rt,
         b" bytes, and 1024 are the most: shorten it, or split it into rules on several places\n",
@@ -143,28 +161,20 @@ pub fn tell_nodes(rt: &impl Print, place: Place) {
     );
 }
 
-// Where a word of the rule stands, after so many. The place has the line on which the text begins.
-pub fn say_spot(rt: &impl Print, text: &[u8], place: Place, words: usize)
-    requires { (length text.now ≤ 65535) × (place.line ≤ 65537) }
-{
-    let line = place.line + newlines(text, word_behind(text, words).from);
+// Where a word of the rule stands, after so many.
+pub fn say_spot(rt: &impl Print, rule: RuleText<'_>, words: usize) {
+    let place = rule.place;
+    let line = place.line + newlines(rule.text, word_behind(rule.text, words).from);
+    let number = place.rule.unwrap_or(0);
     let mut room: [u8; 1024] = base::room(0);
-    let end = add_place(
-        place.rule.unwrap_or(0),
-        line,
-        following(words),
-        &mut room,
-        0,
-    );
+    let end = add_place(number, line, following(words), &mut room, 0);
     say(rt, front(&room, end));
 }
 
 // The same, and the word.
-pub fn say_place(rt: &impl Print, text: &[u8], place: Place, words: usize)
-    requires { (length text.now ≤ 65535) × (place.line ≤ 65537) }
-{
-    say_spot(rt, text, place, words);
-    say_word(rt, word_at(text, words));
+pub fn say_place(rt: &impl Print, rule: RuleText<'_>, words: usize) {
+    say_spot(rt, rule, words);
+    say_word(rt, word_at(rule.text, words));
 }
 
 // The word of a list that a name names an action by.
@@ -178,21 +188,18 @@ fn named_word<'a>(list: &'a [u8], name: &[u8]) -> Option<&'a [u8]> {
 // 32, after so many words. The file's actions are listed.
 pub fn tell_unreadable(
     rt: &impl Print,
-    text: &[u8],
-    place: Place,
+    rule: RuleText<'_>,
     words: usize,
     expected: Category,
     list: &[u8],
-)
-    requires { (length text.now ≤ 65535) × (place.line ≤ 65537) }
-{
-    let word = word_at(text, words);
+) {
+    let word = word_at(rule.text, words);
     let named = named_word(list, word);
     let misfit = misfit_of(word, expected, named.is_some());
     let mut room: [u8; 1024] = base::room(0);
     let at = add_misfit(misfit, word, &mut room, 0);
     let end = add_expected(expected, &mut room, at);
-    say_spot(rt, text, place, words);
+    say_spot(rt, rule, words);
     say(rt, front(&room, end));
     if let Some(action) = named {
         say(rt, b"the action list has ");

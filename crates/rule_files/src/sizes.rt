@@ -1,23 +1,12 @@
 // What a refusal of a text's sheet means, and what to do: 8 or 9, since such a sheet passes checks 1 to 7. Its node is told by the word of the text.
-ghost use Rattle.std.specs.Prelude.{◌≤◌, length};
-
 use crate::nodes::words_before;
 use crate::output::say;
-use crate::parts::Place;
+use crate::parts::RuleText;
 use crate::refusals::say_place;
 
 // 8 and 9: how the node grows too large.
-pub fn tell_size(
-    rt: &impl Print,
-    text: &[u8],
-    place: Place,
-    sheet: &[u8],
-    node: usize,
-    grown: &[u8],
-)
-    requires { (length text.now ≤ 65535) × (place.line ≤ 65537) }
-{
-    say_place(rt, text, place, words_before(sheet, node));
+pub fn tell_size(rt: &impl Print, rule: RuleText<'_>, sheet: &[u8], node: usize, grown: &[u8]) {
+    say_place(rt, rule, words_before(sheet, node));
     say(rt, grown);
     say(
         rt,
