@@ -11,7 +11,8 @@ use grammar::{Category, Token};
 use parser_state::{Taken, close_leaf, close_one, close_three, close_two, going, stuck, take_word};
 use sheet_writer::{Kind, NODE_ROOM};
 
-// A number.
+// A number. In line, it would lengthen the frame of each reader: 44 KiB of stack for the longest text in place of 33, and LEMONDARTS_STACK_TEXT is 40.
+#[inline(never)]
 fn read_number(text: &[u8], p: u64) -> NumberRead
     requires { Sane text.now (progress_of p) }
     ensures { ParsesNumber text.now (progress_of p) (progress_of result.progress) result.number }

@@ -1,60 +1,39 @@
 // From a file to its answer.
-ghost use Rattle.std.specs.Prelude.{◌≡◌, ◌≤◌, length};
+ghost use Rattle.std.specs.Prelude.{◌≤◌, length};
 
 use crate::joined::answer_joined;
-use crate::rule::answer_text;
+use crate::rule::{TABLE_ROOM, answer_text};
 use rule_files::{
-    Place, find, first_watched, front, line_behind, part_from, read_head, refuse_long_file,
-    room_for_actions, say_refusal, tell_rules,
+    first_line, first_watched, front, line_behind, part_from, read_head, refuse_long_file,
+    say_refusal, tell_rules,
 };
 
 // Room for eight tables.
-fn room_for_tables() -> [u8; 8256]
-    ensures { 8256 ≡ length result }
-{
-    [0u8; 8256]
-}
+const TABLES_ROOM: usize = 8 * TABLE_ROOM;
 
 // Answers the rules of a file one after the other, each with its table after that of the one before, and where there are several joins them.
-fn answer_rules(
-    rt: &(impl Print + Eprint),
-    file: &[u8],
-    start: usize,
-    actions: &[u16],
-    list: &[u8],
-    tables: &mut [u8],
-)
-    requires { (start ≤ length file.now) × (length file.now ≤ 65535) × (8256 ≡ length tables.old) }
+fn answer_rules(rt: &(impl Print + Eprint), file: &[u8], actions: &[u16])
+    requires { length file.now ≤ 65535 }
 {
-    let mut watched = Place { rule: 0, line: 0 };
-    let mut from = start;
+    let mut tables: [u8; TABLES_ROOM] = base::room(0);
+    let mut watched = None;
     let mut end = 0;
-    let mut rule = 1;
-    while rule <= 8 {
-        let part = part_from(file, from, rule);
-        let to = part.to;
-        let place = part.place;
-        let length = answer_text(
-            rt,
-            &file[from..to],
-            place,
-            actions,
-            list,
-            &mut tables[end..],
-        );
-        if length == 0 {
+    let mut from = line_behind(file, 0);
+    for number in 1..=8usize {
+        let part = part_from(file, from, number);
+        let list = first_line(file);
+        let Some(length) = answer_text(rt, part.rule, actions, list, &mut tables[end..]) else {
             return;
-        }
-        watched = first_watched(watched, tables[end] == 2, place, &file[from..to]);
+        };
+        watched = first_watched(watched, tables[end] == 2, part.rule);
         end += length;
         if part.last {
-            if 1 < rule {
-                answer_joined(rt, rule, front(tables, end), watched);
+            if 1 < number {
+                answer_joined(rt, number, front(&tables, end), watched);
             }
             return;
         }
-        from = line_behind(file, to);
-        rule += 1;
+        from = line_behind(file, part.to);
     }
     say_refusal(rt, 2, 0);
     tell_rules(rt);
@@ -66,20 +45,8 @@ pub(crate) fn answer(rt: &(impl Print + Eprint), file: &[u8]) {
         refuse_long_file(rt);
         return;
     }
-    let mut sets = room_for_actions();
-    let head = read_head(rt, file, &mut sets);
-    let count = head.count;
-    if count == 0 {
-        return;
+    let mut sets = [0u16; 16];
+    if let Some(actions) = read_head(rt, file, &mut sets) {
+        answer_rules(rt, file, actions);
     }
-    let mut tables = room_for_tables();
-    let end = find(file, 0, 10);
-    answer_rules(
-        rt,
-        file,
-        head.start,
-        &sets[0..count],
-        &file[0..end],
-        &mut tables,
-    );
 }
