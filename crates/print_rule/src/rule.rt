@@ -10,7 +10,7 @@ pub(crate) const TABLE_ROOM: usize = 1032;
 
 // The length of a table of so many rows and actions.
 fn table_length(actions: usize, rows: usize) -> usize
-    ensures { result ≤ TABLE_ROOM }
+    ensures { (8 ≤ result) × (result ≤ TABLE_ROOM) }
 {
     8 + rows.min(64) * actions.min(16)
 }
