@@ -16,7 +16,6 @@ use Rattle.syntax.specs.Meaning.{Meaning, formula, policy, as_policy, meaning_fr
 use Rattle.syntax.specs.declared.NodeType.{NodeType}
 use Rattle.syntax.specs.declared.NodeType.TheVariants.{Unused, Formula, Policy}
 use Rattle.syntax.specs.declared.Sheet.{Sheet}
-use Rattle.syntax.specs.declared.TypedNode.{TypedNode}
 use Rattle.syntax.proofs.EqualParts.{equal-parts}
 use Rattle.syntax.proofs.NodeTypes.{EachPart, FormulaBefore, PolicyBefore}
 use Rattle.typing.specs.Typed.{SoundSheet, Agrees}
@@ -77,7 +76,7 @@ agrees-policy (Policy m k) (policy p) a e = record { words = refl; size = refl }
 typed-formula : {t : NodeType} → t ≡ Formula → t ≡ Unused → ⊥
 typed-formula e u = let z : ◌≡◌ {A = ℕ} 0 1 = cc in omega arith
 
-module _ (bytes : List ℕ) {mode : Mode} (sheet : Sheet) (types : List TypedNode) (read : ReadFrom bytes sheet) (sound : SoundSheet mode sheet types) where
+module _ (bytes : List ℕ) {mode : Mode} (sheet : Sheet) (types : List NodeType) (read : ReadFrom bytes sheet) (sound : SoundSheet mode sheet types) where
   abbrev words : ℕ → List Word
   words n = meaning_words (node_meaning sheet n)
 
@@ -131,7 +130,7 @@ module _ (bytes : List ℕ) {mode : Mode} (sheet : Sheet) (types : List TypedNod
   unfold-below (suc m) n h g t = unfold-node n g t (λ i l. unfold-below m i (omega arith) (omega arith))
 
 -- A sheet that is judged sound, in its bytes, and a node that is a policy.
-module _ (bytes : List ℕ) {mode : Mode} (sheet : Sheet) (types : List TypedNode) (judged : JudgedFrom bytes mode sheet types)
+module _ (bytes : List ℕ) {mode : Mode} (sheet : Sheet) (types : List NodeType) (judged : JudgedFrom bytes mode sheet types)
     (n : ℕ) (below : n < sheet.count) {m : Mode} {k : Bound} (is : type_at types n ≡ Policy m k) where
   abbrev sound : SoundSheet mode sheet types
   sound = judged-sound sheet judged.judged judged.formed

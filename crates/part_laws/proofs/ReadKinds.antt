@@ -1,5 +1,7 @@
 -- A node that is read from five fields: the text of its kind is its own words, its parts are the shape's, and its words are counted right.
 -- Assumes nothing.
+use Rattle.sheet_reading.specs.declared.NodeError.TheVariants.{WrongField, UnknownKind}
+use Rattle.std.proofs.Common.{Err, Ok}
 use mathlib.Core.Path.{◌≡◌, refl, sym, subst}
 use mathlib.Core.Bool.{Bool, true, false, cond, ◌&&◌}
 use mathlib.Core.List.{[], ◌∷◌, append-nil}
@@ -13,10 +15,7 @@ use Rattle.syntax.specs.Shape.{shape_of}
 use Rattle.syntax.specs.declared.Node.{Node}
 use Rattle.syntax.specs.declared.Node.TheVariants.{True, False, Proposition, Negation, Conjunction, Disjunction, Now, Holds, Count, Not, And, Or, Eventually, Always, BeforeMinus, BeforePlus, AfterMinus, AfterPlus, Fulfilling, Ignoring}
 use Rattle.sheet_layout.specs.Layout.{in_range}
-use Rattle.sheet_reading.specs.Reading.{given, read_fields}
-use Rattle.sheet_reading.specs.declared.NodeFields.TheVariants.{Right, Wrong}
-use Rattle.sheet_reading.specs.declared.NodeRead.{NodeRead}
-use Rattle.sheet_reading.specs.declared.NodeRead.TheVariants.{Known, UnknownKind}
+use Rattle.sheet_reading.specs.Reading.{NodeRead, given, read_fields}
 use Rattle.grammar.specs.Spelling.{number_word}
 use Rattle.messages.specs.Message.{decimal}
 use Rattle.part_words.specs.Kinds.{kind_word, part_count}
@@ -44,9 +43,9 @@ module _ (kind argument a b c : ℕ) where
   Says node = SaysBy kind node
 
   abbrev SaysRead : NodeRead → Type 0
-  SaysRead (Known (Right node)) = Says node
-  SaysRead (Known Wrong) = Unit {0}
-  SaysRead UnknownKind = Unit {0}
+  SaysRead (Ok node) = Says node
+  SaysRead (Err WrongField) = Unit {0}
+  SaysRead (Err UnknownKind) = Unit {0}
 
   record Said (r : NodeRead) : Type 0 where
     said : SaysRead r
@@ -59,7 +58,7 @@ module _ (kind argument a b c : ℕ) where
       by true e = p (eqb-true kind k e)
       by false e = q
 
-  said-given : (t : Bool) (node : Node) → (t ≡ true → Says node) → Said (Known (given t node))
+  said-given : (t : Bool) (node : Node) → (t ≡ true → Says node) → Said ((given t node))
   said-given true node f = record { said = f refl }
   said-given false node f = record { said = tt }
 
@@ -67,12 +66,12 @@ module _ (kind argument a b c : ℕ) where
   as-kind k node s e = subst (λ (x : ℕ). SaysBy x node) (sym e) s
 
   -- a kind whose word is all
-  plain : (k : ℕ) (t : Bool) (node : Node) → SaysBy k node → kind ≡ k → Said (Known (given t node))
+  plain : (k : ℕ) (t : Bool) (node : Node) → SaysBy k node → kind ≡ k → Said ((given t node))
   plain k t node s e = said-given t node (λ r. as-kind k node s e)
 
   -- a kind with a number in a range
   ranged : (k low high : ℕ) (t : Bool) (node : Node) → high < 100 → (decimal argument ≡ number_word argument → SaysBy k node) → kind ≡ k
-      → Said (Known (given (in_range low high argument && t) node))
+      → Said ((given (in_range low high argument && t) node))
   ranged k low high t node h s e =
       said-given (in_range low high argument && t) node
       (λ r.
@@ -131,8 +130,8 @@ module _ (kind argument a b c : ℕ) where
       (said-cond 20 _ _ (plain 20 (two-parts n) (AfterMinus a b) (refl, refl, refl))
       (said-cond 21 _ _ (plain 21 (two-parts n) (AfterPlus a b) (refl, refl, refl))
       (said-cond 22 _ _ (ranged 22 1 60 (three-parts n) (Fulfilling argument a b c) (omega arith) (λ e. (limited e, refl, refl)))
-      (said-cond 23 _ UnknownKind (plain 23 (two-parts n) (Ignoring a b) (refl, refl, refl)) (record { said = tt }))))))))))))))))))))
+      (said-cond 23 _ (Err UnknownKind) (plain 23 (two-parts n) (Ignoring a b) (refl, refl, refl)) (record { said = tt }))))))))))))))))))))
 
-  pub says-node : (n : ℕ) (node : Node) → read_fields n kind argument a b c ≡ Known (Right node)
+  pub says-node : (n : ℕ) (node : Node) → read_fields n kind argument a b c ≡ Ok node
       → (own_text kind argument ≡ spaced_words (head_words (shape_of node))) × (parts_among kind a b c ≡ part_list (shape_of node)) × (word_count kind ≡ length (head_words (shape_of node)))
   says-node n node e = subst SaysRead e (read-said n).said

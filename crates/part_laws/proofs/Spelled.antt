@@ -1,5 +1,6 @@
 -- A typed policy whose numbers are in range is read back from its words; and they are the only ones.
 -- Assumes nothing.
+use Rattle.std.proofs.Common.{None}
 use mathlib.Core.Path.{◌≡◌, refl, ap, subst}
 use mathlib.Core.List.{List, [], ◌∷◌}
 use Prim.Native.Nat.{ℕ}
@@ -10,9 +11,7 @@ use Rattle.policy.specs.Policy.{Policy, now, holds-first, count, not-p, and-p, o
 use Rattle.trace.specs.declared.Mode.{Mode}
 use Rattle.trace.specs.declared.Mode.TheVariants.{Watched as watched, Enforced as enforced}
 use Rattle.policy.specs.declared.Bound.{Bound}
-use Rattle.policy.specs.declared.Typing.{Typing}
-use Rattle.policy.specs.declared.Typing.TheVariants.{Typed as typed, Untyped as untyped}
-use Rattle.policy.specs.Typing.{other, alike_typed, policy_type}
+use Rattle.policy.specs.Typing.{typed, Typing, other, alike_typed, policy_type}
 use Rattle.policy.proofs.Typings.{from-typed, from-watched, from-enforced, from-cond}
 use Rattle.grammar.specs.Words.{Word}
 use Rattle.grammar.specs.Spelling.{number_word}
@@ -42,10 +41,14 @@ ignoring-as watched f b r s = ignoring-w r s
 ignoring-as enforced f b r s = ignoring-e r s
 
 -- a typing has one mode
-turned : (p : Policy) {n m : Mode} {j k : Bound} → typed n j ≡ typed m k → Spelled n p → Spelled m p
-turned p {n} {m} e r = let same : n ≡ m = cc in subst (λ (x : Mode). Spelled x p) same r
+abbrev mode_of : Typing → Mode
+mode_of (typed m k) = m
+mode_of None = watched
 
-no-type : {A : Type 0} {m : Mode} {k : Bound} → untyped ≡ typed m k → A
+turned : (p : Policy) {n m : Mode} {j k : Bound} → typed n j ≡ typed m k → Spelled n p → Spelled m p
+turned p {n} {m} e r = let same : n ≡ m = ap mode_of e in subst (λ (x : Mode). Spelled x p) same r
+
+no-type : {A : Type 0} {m : Mode} {k : Bound} → None ≡ typed m k → A
 no-type e = absurd (let z : ◌≡◌ {A = ℕ} 0 1 = cc in omega arith)
 
 abbrev Typed : Mode → Typing → Type 0
@@ -53,14 +56,14 @@ Typed m s = (j : Bound) × (s ≡ typed m j)
 
 both-alike : (s t : Typing) {m : Mode} {k : Bound} → alike_typed s t ≡ typed m k → Typed m s × Typed m t
 both-alike (typed watched j) (typed watched i) {m} e =
-    let same : watched ≡ m = cc in ((j, ap (λ (x : Mode). typed x j) same), (i, ap (λ (x : Mode). typed x i) same))
+    let same : watched ≡ m = ap mode_of e in ((j, ap (λ (x : Mode). typed x j) same), (i, ap (λ (x : Mode). typed x i) same))
 both-alike (typed watched j) (typed enforced i) e = no-type e
-both-alike (typed watched j) untyped e = no-type e
+both-alike (typed watched j) None e = no-type e
 both-alike (typed enforced j) (typed watched i) e = no-type e
 both-alike (typed enforced j) (typed enforced i) {m} e =
-    let same : enforced ≡ m = cc in ((j, ap (λ (x : Mode). typed x j) same), (i, ap (λ (x : Mode). typed x i) same))
-both-alike (typed enforced j) untyped e = no-type e
-both-alike untyped t e = no-type e
+    let same : enforced ≡ m = ap mode_of e in ((j, ap (λ (x : Mode). typed x j) same), (i, ap (λ (x : Mode). typed x i) same))
+both-alike (typed enforced j) None e = no-type e
+both-alike None t e = no-type e
 
 pub formula-spelled : (f : ActionFormula) → FormulaInRange f → Reads Formula (formula_words f) f
 formula-spelled always-true r = true-a

@@ -1,6 +1,7 @@
 -- The part of a rule text that is shown: for bytes that hold the sheet of a text, and a node that is a policy, the words that are shown are read as
 -- the node's policy, and stand in the text behind `words_before` words.
 -- Assumes nothing.
+use Rattle.syntax.specs.declared.NodeType.{NodeType}
 use mathlib.Core.Path.{◌≡◌, sym, ap, ◌∙◌}
 use mathlib.Core.List.{List, ◌∷◌, ◌++◌}
 use Prim.Native.Nat.{ℕ, ◌≤◌, ◌<◌}
@@ -11,7 +12,6 @@ use Rattle.policy.specs.declared.Bound.{Bound}
 use Rattle.syntax.specs.Types.{type_at}
 use Rattle.syntax.specs.Meaning.{node_policy}
 use Rattle.syntax.specs.declared.NodeType.TheVariants.{Policy}
-use Rattle.syntax.specs.declared.TypedNode.{TypedNode}
 use Rattle.sheet_judge.specs.JudgedFrom.{JudgedFrom}
 use Rattle.grammar.specs.Words.{Word, words_of}
 use Rattle.grammar.specs.Grammar.{TextRule, Reads}
@@ -25,7 +25,7 @@ use Rattle.part_laws.proofs.Spelled.{one-spelling}
 use Rattle.part_laws.proofs.PartSpelled.{means-policy, part-spelled, part-reads}
 use Rattle.part_laws.proofs.TextPlaces.{node-size, words-before}
 
-module _ (actions : List ℕ) {ws : List Word} {rule : TextRule} (reads : Reads Text ws rule) (bytes : List ℕ) {mode : Mode} (types : List TypedNode)
+module _ (actions : List ℕ) {ws : List Word} {rule : TextRule} (reads : Reads Text ws rule) (bytes : List ℕ) {mode : Mode} (types : List NodeType)
     (judged : JudgedFrom bytes mode (sheet_for actions rule.policy) types) (n : ℕ) (below : n < length (policy_nodes 0 rule.policy))
     {m : Mode} {k : Bound} (is : type_at types n ≡ Policy m k) where
   -- no part of a text is cut

@@ -1,5 +1,6 @@
 -- The sheet of a text: behind as many words as stand before a node's word, the text goes on with the words of the node's part.
 -- Assumes nothing.
+use Rattle.std.proofs.Common.{Ok}
 use mathlib.Core.Path.{◌≡◌, refl, sym, ap, subst, ◌∙◌}
 use mathlib.Core.List.{List, [], ◌∷◌, ◌++◌, append-nil}
 use Prim.Native.Nat.{ℕ, suc, ◌+◌, ◌-◌, ◌≤◌, ◌<◌}
@@ -18,8 +19,6 @@ use Rattle.syntax.specs.declared.Sheet.{Sheet}
 use Rattle.typing.proofs.Meanings.{node_meaning}
 use Rattle.sheet_layout.specs.Layout.{field, node_count}
 use Rattle.sheet_reading.specs.ReadFrom.{ReadFrom}
-use Rattle.sheet_reading.specs.declared.NodeFields.TheVariants.{Right}
-use Rattle.sheet_reading.specs.declared.NodeRead.TheVariants.{Known}
 use Rattle.grammar.specs.Words.{Word}
 use Rattle.grammar.specs.Nodes.{over_one, over_two, over_three, formula_nodes, policy_nodes}
 use Rattle.grammar.proofs.Sizes.{length-one, length_two, length_three}
@@ -64,7 +63,7 @@ module _ (bytes : List ℕ) (sheet : Sheet) (read : ReadFrom bytes sheet) where
       let meant : node_meaning sheet m ≡ x = rw z at means.0 in
       let said =
       says-node (field bytes m 0) (field bytes m 1) (field bytes m 2) (field bytes m 3) (field bytes m 4) m w
-      (read.nodes m (omega arith) ∙ ap (λ (y : Node). Known (Right y)) s) in
+      (read.nodes m (omega arith) ∙ ap (λ (y : Node). Ok y) s) in
       let t = tree (head_words (shape_of w)) f said.1 (sym said.2) (ap meaning_words meant ∙ is) (omega (arith, ap meaning_size meant, means.1)) (bare {from = suc m}) in
       rw (z, e) (subst (Forest bytes words size n (suc m) (m ∷ [])) (append-nil (words m) ∙ ap meaning_words meant) t)
 
