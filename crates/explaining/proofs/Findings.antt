@@ -93,15 +93,13 @@ module _ {sheet : Sheet} {work : List ℕ} (s : Standing Enforced sheet work) wh
     front k = sequence-take A k list q
 
     pub walkable : Walkable work last A list
-    walkable = record { room = s.room; readable = reached-readable last itself; few = s.right.formed.few-actions; sequence = q }
+    walkable = record { readable = reached-readable last itself; sequence = q }
 
     pub namable : Namable work set last A list
     namable =
         record {
-          room = s.room;
           listed = omega (arith, s.right.formed.few-nodes, s.right.formed.some-node);
           readable = λ n h e. reached-readable n (set-reached n e);
-          few = s.right.formed.few-actions;
           sequence = q;
         }
 

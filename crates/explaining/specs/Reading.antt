@@ -16,9 +16,7 @@ use Rattle.explaining.specs.Explains.{Explanation, refused, Finds}
 
 -- What reading is lent: a slot that can be read, and actions alone.
 pub record Walkable (work : List ℕ) (node actions : ℕ) (list : List ℕ) : Type 0 where
-  pub room : work_length ≤ length work
   pub readable : Readable work node
-  pub few : actions ≤ 16
   pub sequence : Sequence actions list
 
 -- The front before place k does not trip, and with the action there it does.
@@ -34,10 +32,8 @@ FirstTrip step list (Some k) = TripsAt step list k
 
 -- What naming is lent: the slots of the set's nodes below the last can be read.
 pub record Namable (work : List ℕ) (set last actions : ℕ) (list : List ℕ) : Type 0 where
-  pub room : work_length ≤ length work
   pub listed : last < 64
   pub readable : (n : ℕ) → n < last → bit set n ≡ true → Readable work n
-  pub few : actions ≤ 16
   pub sequence : Sequence actions list
 
 -- The lowest node of the set below the last whose rows the list trips, or the last where there is none.

@@ -13,6 +13,7 @@ use compiler::{BuiltSheet, build_sheet};
 use limits::{LARGEST, Limits, NUMBERS_LENGTH, WORK_LENGTH};
 use making::long_enough;
 use reached::reached_by_and;
+use rules::PartRows;
 use table::is_watched;
 
 // Finds the first denied action of a list and the node that is named for it, by the rows of the sheet's nodes.
@@ -31,12 +32,13 @@ fn find_denial(built: &BuiltSheet, list: &[u8], work: &[u8]) -> Result<Option<De
     }
     let policy = built.sheet.count - 1;
     let last = policy as u8;
-    let Some(place) = first_trip(work, actions, last, list) else {
+    let parts = PartRows { work, actions };
+    let Some(place) = first_trip(parts, last, list) else {
         return Ok(None);
     };
     let set = reached_by_and(built.sheet.nodes, policy);
     let end = place + 1;
-    let node = lowest_tripped(work, actions, set, last, &list[..end]);
+    let node = lowest_tripped(parts, set, last, &list[..end]);
     Ok(Some(Denial {
         place,
         node: usize::from(node),

@@ -7,4 +7,4 @@ use Rattle.rules.specs.Rules.{part_at}
 use Rattle.explaining.proofs.reading.first_trip.Given as goal
 
 abbrev pub invariant-loop-place : goal.invariant-loop-place
-invariant-loop-place l = (l.row < 64) × (run (part_at l.actions l.work l.node) (go 0) (take l.place l.list) ≡ go l.row)
+invariant-loop-place l = (l.row < 64) × (run (part_at l.parts.actions l.parts.work.now l.node) (go 0) (take l.place l.list) ≡ go l.row)

@@ -12,7 +12,7 @@ pub returns-then-is_some : goal.returns-then-is_some
 returns-then-is_some c =
     record {
       within = omega arith;
-      chosen = λ h. (eq-eqb _ 1 c.if-set-n-eq1.true, tripped-at (part_at c.args.actions c.args.work.now c.loop-n.n) c.args.list.now c.first_trip.result c.first_trip.ensures (sym c.is_some.ensures ∙ c.if-is_some.true));
+      chosen = λ h. (eq-eqb _ 1 c.if-set-n-eq1.true, tripped-at (part_at c.args.parts.actions c.args.parts.work.now c.loop-n.n) c.args.list.now c.first_trip.result c.first_trip.ensures (sym c.is_some.ensures ∙ c.if-is_some.true));
       passed = c.loop-n.invariant;
     }
 
@@ -21,6 +21,6 @@ loop-n-preserved c =
     below_more _ _ c.loop-n.invariant
     (λ e. elim c.else-set-n-eq1.branch [
       | else-set-n-eq1-via-then-set-n-eq1+else-is_some w ↦
-          untripped-at (part_at c.args.actions c.args.work.now c.loop-n.n) c.args.list.now w.first_trip.result w.first_trip.ensures (λ q. let p = sym w.is_some.ensures ∙ w.if-is_some.false in cc)
+          untripped-at (part_at c.args.parts.actions c.args.parts.work.now c.loop-n.n) c.args.list.now w.first_trip.result w.first_trip.ensures (λ q. let p = sym w.is_some.ensures ∙ w.if-is_some.false in cc)
       | else-set-n-eq1-via-else-set-n-eq1 w ↦ absurd (w.if-set-n-eq1.false (eqb-true _ 1 e))
     ])

@@ -8,4 +8,4 @@ use Rattle.rules.specs.Rules.{part_at}
 use Rattle.explaining.proofs.reading.lowest_tripped.Given as goal
 
 abbrev pub invariant-loop-n : goal.invariant-loop-n
-invariant-loop-n l = (k : ℕ) → k < l.n → bit l.set k ≡ true → trips (part_at l.actions l.work k) 0 l.list ≡ false
+invariant-loop-n l = (k : ℕ) → k < l.n → bit l.set k ≡ true → trips (part_at l.parts.actions l.parts.work.now k) 0 l.list ≡ false
