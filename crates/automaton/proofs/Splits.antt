@@ -5,8 +5,7 @@ use mathlib.Core.List.{List}
 use Prim.Native.Nat.{ℕ, suc, ◌≤◌, ◌<◌}
 use native.Mathlib.Decide.{ℕ_discrete}
 use native.Mathlib.Omega.{arith}
-use Rattle.automaton.specs.Partition.{class_of, first_of, Partition, Over, SplitsTo}
-use Rattle.std.proofs.Common.{Option, Some, None}
+use Rattle.automaton.specs.Partition.{class_of, first_of, Partition, Over}
 use Rattle.base.proofs.Pigeon.{pigeon}
 use Rattle.automaton.proofs.Classes.{Equivalence, class-related}
 
@@ -112,11 +111,3 @@ module _ (R Q : ℕ → ℕ → Type 0) (states : ℕ) (to : (s t : ℕ) → s <
 
       unrelated : (c d : ℕ) → c < d → d < count → Q (first_of firsts c) (first_of firsts d) → ⊥
       unrelated c d l h r = p.apart c d l h (from (first_of firsts c) (first_of firsts d) (p.inside c (omega arith)) (p.inside d h) r)
-
--- What a split that answered so says.
-module _ (R : ℕ → ℕ → Type 0) (states limit : ℕ) (classes firsts : List ℕ) where
-  pub split-over : (r : Option ℕ) → r ≡ None → SplitsTo R states limit r classes firsts → Over R states limit
-  split-over r e s = subst (λ (x : Option ℕ). SplitsTo R states limit x classes firsts) e s
-
-  pub split-classes : (r : Option ℕ) (count : ℕ) → r ≡ Some count → SplitsTo R states limit r classes firsts → (count ≤ limit) × Partition R states count classes firsts
-  split-classes r count e s = subst (λ (x : Option ℕ). SplitsTo R states limit x classes firsts) e s

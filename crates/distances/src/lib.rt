@@ -16,7 +16,7 @@ fn behind_action(machine: Transitions<'_>, far: &[u8], s: usize, a: usize) -> u8
     if target < far.len() { far[target] } else { 0 }
 }
 
-// One more than the least distance behind a state's actions; at most 255.
+// One more than the least distance behind a state's actions; at most 255, which is no case apart: the sweeps take the least of such numbers.
 fn one_further(machine: Transitions<'_>, far: &[u8], s: usize) -> u8
     requires { s * machine.actions + machine.actions ≤ length machine.next.now }
     ensures { OneFurther machine.entry.next.now far.now (s * machine.entry.actions) machine.entry.actions result }

@@ -7,7 +7,7 @@ ghost use Rattle.automaton.specs.Partition.{class_of, SameSignature, FindsClass,
 
 use automaton::Transitions;
 
-// The class of a state, 255 for what is no state.
+// The class of a state, 255 for what is no state: no Option, since the quotient's entries are these bytes (`quotient_entry`).
 pub fn class_of(classes: &[u8], s: usize) -> u8
     ensures { result ≡ class_of classes.now s }
 {

@@ -6,7 +6,7 @@ use Prim.Native.Nat.{ℕ, zero, suc, ◌+◌, ◌*◌, ◌-◌, ◌≤◌, ◌<�
 use native.Mathlib.Nat.{mul-le-mul}
 use native.Mathlib.Omega.{arith}
 use lib.ListN.{length, get_or, take, drop, length-take, length-drop}
-use lib.Seq.{get_or-take, take-nil, take-length}
+use lib.Seq.{get_or-take, take-nil}
 use Rattle.base.specs.Word.{word_at}
 use Rattle.automaton.specs.Machine.{Machine}
 use Rattle.table.specs.Table.{actions_of, rows_of, table_length, front_table, entries_of, EntryFits, HeaderFits, WellFormed, RowsFit, CanonicalRows, Canonical}
@@ -64,9 +64,6 @@ module _ (bytes : List ℕ) where
   abbrev size : ℕ
   size = rows_of bytes * actions_of bytes
 
-  pub header-of-front : HeaderFits (front_table bytes) → HeaderFits bytes
-  header-of-front h = same-header (front_table bytes) bytes (word_of_part size bytes) (omega (arith, h.long, length-take (8 + size) bytes)) h
-
   front-header : HeaderFits bytes → HeaderFits (front_table bytes)
   front-header h =
       same-header bytes (front_table bytes) (λ at g. sym (word_of_part size bytes at g)) (omega (arith, h.long, length-take (8 + size) bytes)) h
@@ -98,10 +95,6 @@ module _ (bytes : List ℕ) where
   front-entries header end f e =
       let n : end - 8 ≡ table_length bytes - 8 = ap (λ (k : ℕ). k - 8) (e ∙ sym (front_length header f)) in
       ap (λ (k : ℕ). take k (drop 8 bytes)) n ∙ sym (drop-take 8 (table_length bytes) bytes)
-
-  -- bytes that are as long as their header gives are the table
-  pub front-whole : length bytes ≡ table_length bytes → front_table bytes ≡ bytes
-  front-whole e = ap (λ (n : ℕ). take n bytes) (sym e) ∙ take-length bytes
 
 -- the rows of a table that passes 10 are a machine
 pub machine : (bytes : List ℕ) → WellFormed bytes → Machine 255 (rows_of bytes) (actions_of bytes) (entries_of bytes)

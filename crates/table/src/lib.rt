@@ -26,7 +26,7 @@ pub enum LoadError {
     NotCanonical,
 }
 
-// The type's number in a table's header.
+// The type's number in a table's header. No `From<Mode> for u8`: the crate of `Mode` knows no numbers, the definition `mode_number` is this one's.
 pub fn mode_number(mode: Mode) -> u8
     ensures { result ≡ mode_number mode }
 {
