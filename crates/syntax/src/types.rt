@@ -163,6 +163,7 @@ fn found_fulfilling(
 pub fn type_node(node: Node, types: [NodeType; 64]) -> Result<NodeType, TypeError>
     ensures { result ≡ type_node node (type_at types) }
 {
+    let part = |i: u8| part_at(types, i);
     match node {
         Node::True | Node::False | Node::Proposition(_) => Ok(NodeType::Formula),
         Node::Negation(a) => {
@@ -183,31 +184,18 @@ pub fn type_node(node: Node, types: [NodeType; 64]) -> Result<NodeType, TypeErro
             Ok(NodeType::Policy(Mode::Enforced, Bound::Finite(1)))
         }
         Node::Count(k) => found(type_count(k)),
-        Node::Not(a) => found(type_not(part_at(types, a))),
-        Node::And(a, b) | Node::Or(a, b) => found(alike_typed(
-            part_at(types, a),
-            part_at(types, b),
-        )),
-        Node::Eventually(a) => found(type_copied(Mode::Watched, part_at(types, a))),
-        Node::Always(a) => found(type_copied(Mode::Enforced, part_at(types, a))),
-        Node::BeforeMinus(a, b) => found(type_before(
-            Mode::Watched,
-            part_at(types, a),
-            part_at(types, b),
-        )),
-        Node::BeforePlus(a, b) => found(type_before(
-            Mode::Enforced,
-            part_at(types, a),
-            part_at(types, b),
-        )),
-        Node::AfterMinus(a, b) => found_after(Mode::Watched, part_at(types, a), part_at(types, b)),
-        Node::AfterPlus(a, b) => found_after(Mode::Enforced, part_at(types, a), part_at(types, b)),
-        Node::Fulfilling(k, a, b, c) => {
-            found_fulfilling(k, part_at(types, a), part_at(types, b), part_at(types, c))
-        }
+        Node::Not(a) => found(type_not(part(a))),
+        Node::And(a, b) | Node::Or(a, b) => found(alike_typed(part(a), part(b))),
+        Node::Eventually(a) => found(type_copied(Mode::Watched, part(a))),
+        Node::Always(a) => found(type_copied(Mode::Enforced, part(a))),
+        Node::BeforeMinus(a, b) => found(type_before(Mode::Watched, part(a), part(b))),
+        Node::BeforePlus(a, b) => found(type_before(Mode::Enforced, part(a), part(b))),
+        Node::AfterMinus(a, b) => found_after(Mode::Watched, part(a), part(b)),
+        Node::AfterPlus(a, b) => found_after(Mode::Enforced, part(a), part(b)),
+        Node::Fulfilling(k, a, b, c) => { found_fulfilling(k, part(a), part(b), part(c)) }
         Node::Ignoring(a, b) => {
             formula_at(types, a)?;
-            found(type_ignoring(part_at(types, b)))
+            found(type_ignoring(part(b)))
         }
     }
 }
