@@ -3,11 +3,13 @@
 
 use grammar::Token;
 
+mod reader;
 mod tokens;
 mod words;
 
+pub use reader::{Reader, read_word};
 pub use tokens::{same, token_of};
-pub use words::{pass_blanks, read_word, word_end};
+pub use words::{pass_blanks, word_end};
 
 // A word of a text: which of the language's it is, and the position behind it.
 #[derive(Clone, Copy)]

@@ -38,7 +38,7 @@ pub fn word_end(text: &[u8], from: usize) -> usize
 }
 
 // The next word of a text from a position on.
-pub fn read_word(text: &[u8], at: usize) -> Option<Word>
+pub fn next_word(text: &[u8], at: usize) -> Option<Word>
     ensures { NextWord text.now at result }
 {
     let from = pass_blanks(text, at);

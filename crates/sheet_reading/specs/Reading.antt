@@ -68,6 +68,11 @@ read_fields n kind argument a b c =
     (cond (eqb kind 23) (two_parts n argument a b c (Ignoring a b))
     (Err UnknownKind))))))))))))))))))))
 
+-- The fault of node n, where it cannot be read.
+abbrev pub judged_at : NodeRead → ℕ → Judged
+judged_at (Ok node) n = Ok tt
+judged_at (Err error) n = Err (read_fault error n)
+
 -- Node n of a sheet.
 abbrev pub node_read : List ℕ → ℕ → NodeRead
 node_read bytes n = read_fields n (field bytes n 0) (field bytes n 1) (field bytes n 2) (field bytes n 3) (field bytes n 4)

@@ -2,7 +2,7 @@
 #![tactic(auto)]
 
 ghost use Rattle.std.specs.Prelude.{◌≡◌};
-ghost use Rattle.sheet_reading.specs.Reading.{read_fault};
+ghost use Rattle.sheet_reading.specs.Reading.{read_fault, judged_at};
 
 use syntax::{Fault, Node};
 
@@ -27,6 +27,16 @@ impl NodeError {
             NodeError::UnknownKind => Fault::UnknownKindAt(node),
             NodeError::WrongField => Fault::WrongFieldAt(node),
         }
+    }
+}
+
+// The fault of a node that was read, if it has one.
+fn judged_at(read: Result<Node, NodeError>, node: usize) -> Result<(), Fault>
+    ensures { result ≡ judged_at read node }
+{
+    match read {
+        Ok(_) => Ok(()),
+        Err(error) => Err(error.at(node)),
     }
 }
 

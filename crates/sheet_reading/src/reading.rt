@@ -3,8 +3,8 @@ ghost use Rattle.std.specs.Prelude.{◌≡◌, ◌<◌};
 ghost use Rattle.sheet_layout.specs.Layout.{actions_at, nodes_at, Inside};
 ghost use Rattle.sheet_reading.specs.Reading.{read_nodes, read_actions};
 
-use crate::NodesRead;
 use crate::nodes::read_node;
+use crate::{NodesRead, judged_at};
 use syntax::Node;
 
 // The propositions of each action. The list stands at `from`.
@@ -29,15 +29,14 @@ pub fn read_nodes(bytes: &[u8], from: usize, count: usize) -> NodesRead
 {
     let mut nodes = [Node::True; 64];
     for n in 0..count {
-        match read_node(bytes, from + 5 * n, n) {
-            Ok(node) => nodes[n] = node,
-            Err(error) => {
-                return NodesRead {
-                    judged: Err(error.at(n)),
-                    nodes,
-                };
-            }
-        }
+        let read = read_node(bytes, from + 5 * n, n);
+        let Ok(node) = read else {
+            return NodesRead {
+                judged: judged_at(read, n),
+                nodes,
+            };
+        };
+        nodes[n] = node;
     }
     NodesRead {
         judged: Ok(()),

@@ -10,10 +10,10 @@ use Rattle.sheet_reading.specs.Reading.{NodeRead, node_read, stopped_at, read_ne
 use Rattle.sheet_reading.specs.declared.NodesRead.{NodesRead}
 use Rattle.sheet_reading.proofs.ReadNodes.{node-at, read_more, stopped-at}
 use Rattle.sheet_reading.proofs.reading.read_nodes.Goals as goal
-use Rattle.sheet_reading.proofs.reading.read_nodes.Goals.{After-read_node}
+use Rattle.sheet_reading.proofs.reading.read_nodes.Goals.{After-read_node-read}
 
 -- what is read of node n
-module _ (c : After-read_node) where
+module _ (c : After-read_node-read) where
   abbrev bytes : List ℕ
   bytes = c.args.bytes.now
 
@@ -29,21 +29,23 @@ module _ (c : After-read_node) where
   abbrev read_as : NodeRead → NodesRead
   read_as = read_next n nodes
 
-  is : c.read_node.result ≡ node_read bytes n
+  is : c.read_node-read.result ≡ node_read bytes n
   is =
-      node-at bytes n (c.args.from + 5 * n) c.read_node.result (ap (λ (at : ℕ). at + 5 * n) (c.requires.from_value (omega arith))) c.read_node.ensures
+      node-at bytes n (c.args.from + 5 * n) c.read_node-read.result (ap (λ (at : ℕ). at + 5 * n) (c.requires.from_value (omega arith))) c.read_node-read.ensures
 
-  more : read_nodes bytes (suc n) ≡ read_as c.read_node.result
-  more = read_more bytes n nodes c.loop-n.invariant c.read_node.result is
+  more : read_nodes bytes (suc n) ≡ read_as c.read_node-read.result
+  more = read_more bytes n nodes c.loop-n.invariant c.read_node-read.result is
 
-  stopped : (f : Fault) → read_as c.read_node.result ≡ stopped_at nodes f → stopped_at nodes f ≡ read_nodes bytes count
+  stopped : (f : Fault) → read_as c.read_node-read.result ≡ stopped_at nodes f → stopped_at nodes f ≡ read_nodes bytes count
   stopped f e =
-      sym (stopped-at bytes n nodes c.loop-n.invariant c.read_node.result is count f c.loop-n-test.true e)
+      sym (stopped-at bytes n nodes c.loop-n.invariant c.read_node-read.result is count f c.loop-n-test.true e)
 
-pub returns-in-Err : goal.returns-in-Err
-returns-in-Err c = let a = (goal.at.returns-in-Err c).After-read_node in rw c.at.ensures (stopped a _ (ap (read_as a) c.in-Err.is))
+pub returns-in_default : goal.returns-in_default
+returns-in_default c =
+    let a = (goal.at.returns-in_default c).After-read_node-read in
+    rw (c.judged_at.ensures, c.in_default.is) (stopped a _ (ap (read_as a) c.in_default.is))
 
 pub loop-n-preserved : goal.loop-n-preserved
 loop-n-preserved c =
-    let a = (goal.at.loop-n-preserved c).After-read_node in
+    let a = (goal.at.loop-n-preserved c).After-read_node-read in
     rw (add-one (n a)) (more a ∙ ap (read_as a) c.in-Ok.is)

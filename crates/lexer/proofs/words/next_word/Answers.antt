@@ -1,10 +1,10 @@
--- `lexer::words::read_word` meets its contract.
+-- `lexer::words::next_word` meets its contract.
 use mathlib.Core.Path.{◌∙◌}
 use Prim.Native.Nat.{◌<◌}
 use native.Mathlib.Omega.{arith}
 use Rattle.lexer.specs.Next.{word, nothing}
 use Rattle.lexer.proofs.Scanning.{no_words}
-use Rattle.lexer.proofs.words.read_word.Goals as goal
+use Rattle.lexer.proofs.words.next_word.Goals as goal
 
 pub returns-then-text-from : goal.returns-then-text-from
 returns-then-text-from c = nothing (c.pass_blanks-from.ensures.same-words ∙ no_words c.args.text.now c.pass_blanks-from.result (omega arith))
