@@ -17,6 +17,7 @@ fn given(right: bool, node: Node) -> Result<Node, NodeError>
 }
 
 // Node n, from its five fields: the kind, the argument, the parts. A part is lower than n, and what a kind does not use is 0.
+// (The kind stays a number: this match is what decodes it, and an enum would need a second table of the same length.)
 fn read_fields(n: usize, kind: u8, argument: u8, a: u8, b: u8, c: u8) -> Result<Node, NodeError>
     ensures { result ≡ read_fields n kind argument a b c }
 {
