@@ -13,7 +13,7 @@ pub use steps::{going, stuck, take_word, unpack};
 pub const LONGEST_TEXT: usize = 1024;
 
 // How far reading has come: the position, and how many words and nodes stand before it; or after how many words it is stuck, and what was to come there.
-// Functions hand it on in one number (specs/Packed.antt), for the stack: structs go over it, and LEMONDARTS_STACK_TEXT is for some 340 readers deep.
+// Functions hand it on in one number (specs/Packed.antt): as a Result of structs it takes 245 KiB of stack for the longest text, in place of 33.
 #[derive(Clone, Copy)]
 pub enum Progress {
     Going {

@@ -4,6 +4,7 @@ ghost use Rattle.std.specs.Prelude.{◌≡◌, ◌+◌, ◌≤◌, ◌<◌, leng
 
 use crate::output::{say, say_number};
 
+// A kind stays a number: it is a byte of any sheet, also of one that is refused.
 const PROPOSITION: usize = 3;
 
 const COUNT: usize = 12;
