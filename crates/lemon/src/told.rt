@@ -10,15 +10,21 @@ use told_messages::{
     add_wrong_action, add_wrong_listed,
 };
 
-fn say(rt: &HostRuntime, text: &[u8], end: usize) {
-    standard_streams::write_all(rt, front(text, end));
+// Writes what is added to an empty text, which answers where it ends.
+fn say<F: FnOnce(&mut [u8]) -> usize>(rt: &HostRuntime, add: F)
+    requires { F.IsAlwaysCallable add }
+{
+    let mut text = room::<u8, TEXT_LENGTH>(0);
+    let end = add(&mut text);
+    standard_streams::write_all(rt, front(&text, end));
 }
 
 // A message of the catalogue.
 pub(crate) fn tell(rt: &HostRuntime, message: Message, first: usize, second: usize, word: &[u8]) {
-    let mut text = room::<u8, TEXT_LENGTH>(0);
-    let end = add_message(message, first, second, word, &mut text, 0);
-    say(rt, &text, end);
+    say(
+        rt,
+        |text| add_message(message, first, second, word, text, 0),
+    );
 }
 
 // The same without a word.
@@ -38,9 +44,7 @@ pub(crate) fn warn_number(rt: &HostRuntime, message: Message, first: usize) {
 }
 
 pub(crate) fn tell_refused(rt: &HostRuntime, number: usize, spot: usize) {
-    let mut text = room::<u8, TEXT_LENGTH>(0);
-    let end = add_refused(number, spot, &mut text, 0);
-    say(rt, &text, end);
+    say(rt, |text| add_refused(number, spot, text, 0));
 }
 
 pub(crate) fn tell_of_rule(
@@ -50,9 +54,10 @@ pub(crate) fn tell_of_rule(
     first: usize,
     second: usize,
 ) {
-    let mut text = room::<u8, TEXT_LENGTH>(0);
-    let end = add_of_rule(rule, message, first, second, &mut text, 0);
-    say(rt, &text, end);
+    say(
+        rt,
+        |text| add_of_rule(rule, message, first, second, text, 0),
+    );
 }
 
 pub(crate) fn tell_of_word(
@@ -63,9 +68,10 @@ pub(crate) fn tell_of_word(
     message: Message,
     word: &[u8],
 ) {
-    let mut text = room::<u8, TEXT_LENGTH>(0);
-    let end = add_of_word(rule, line, number, message, word, &mut text, 0);
-    say(rt, &text, end);
+    say(
+        rt,
+        |text| add_of_word(rule, line, number, message, word, text, 0),
+    );
 }
 
 pub(crate) fn tell_unreadable(
@@ -77,21 +83,18 @@ pub(crate) fn tell_unreadable(
     expected: Category,
     listed: &[u8],
 ) {
-    let mut text = room::<u8, TEXT_LENGTH>(0);
-    let end = add_unreadable(rule, line, number, word, expected, listed, &mut text, 0);
-    say(rt, &text, end);
+    say(
+        rt,
+        |text| add_unreadable(rule, line, number, word, expected, listed, text, 0),
+    );
 }
 
 pub(crate) fn tell_wrong_action(rt: &HostRuntime, number: usize, word: &[u8]) {
-    let mut text = room::<u8, TEXT_LENGTH>(0);
-    let end = add_wrong_action(number, word, &mut text, 0);
-    say(rt, &text, end);
+    say(rt, |text| add_wrong_action(number, word, text, 0));
 }
 
 pub(crate) fn tell_of_sheet(rt: &HostRuntime, number: usize, spot: usize) {
-    let mut text = room::<u8, TEXT_LENGTH>(0);
-    let end = add_of_sheet(number, spot, &mut text, 0);
-    say(rt, &text, end);
+    say(rt, |text| add_of_sheet(number, spot, text, 0));
 }
 
 pub(crate) fn tell_wrong_listed(
@@ -101,15 +104,14 @@ pub(crate) fn tell_wrong_listed(
     actions: usize,
     list: &[u8],
 ) {
-    let mut text = room::<u8, TEXT_LENGTH>(0);
-    let end = add_wrong_listed(number, word, actions, list, &mut text, 0);
-    say(rt, &text, end);
+    say(
+        rt,
+        |text| add_wrong_listed(number, word, actions, list, text, 0),
+    );
 }
 
 pub(crate) fn tell_denied(rt: &HostRuntime, place: usize, node: usize, action: usize, name: &[u8]) {
-    let mut text = room::<u8, TEXT_LENGTH>(0);
-    let end = add_denied(place, node, action, name, &mut text, 0);
-    say(rt, &text, end);
+    say(rt, |text| add_denied(place, node, action, name, text, 0));
 }
 
 pub(crate) fn tell_denier(
@@ -120,7 +122,8 @@ pub(crate) fn tell_denier(
     line: usize,
     word: usize,
 ) {
-    let mut text = room::<u8, TEXT_LENGTH>(0);
-    let end = add_denier(sheet, node, rule, line, word, &mut text, 0);
-    say(rt, &text, end);
+    say(
+        rt,
+        |text| add_denier(sheet, node, rule, line, word, text, 0),
+    );
 }
