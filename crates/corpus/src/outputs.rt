@@ -35,7 +35,7 @@ pub fn all_bytes(area: &[u8], byte: u8) -> bool
     area.iter().all(|x| *x == byte)
 }
 
-// Whether all numbers of an area are this one.
+// Whether all numbers of an area are this one. Not one function over any T: Eq: `returns` stays open, since there `==` need not mean the same value.
 pub fn all_numbers(area: &[u64], number: u64) -> bool
     ensures { result ≡ true → area.now ≡ replicate (length area.now) number }
 {
