@@ -2,8 +2,7 @@
 #![tactic(auto)]
 
 ghost use Rattle.std.specs.Prelude.{◌≡◌, ◌*◌, ◌<◌, length};
-ghost use Rattle.base.specs.Build.{Decides};
-ghost use Rattle.automaton.specs.Partition.{class_of, SameSignature, FindsClass, Searchable};
+ghost use Rattle.automaton.specs.Partition.{class_of, FindsClass, Searchable};
 
 use automaton::Transitions;
 
@@ -14,20 +13,8 @@ pub fn class_of(classes: &[u8], s: usize) -> u8
     if s < classes.len() { classes[s] } else { 255 }
 }
 
-// Whether two states have one signature: left at the first difference.
-fn same_signature(machine: Transitions<'_>, classes: &[u8], s: usize, t: usize) -> bool
-    requires sized { length machine.next.now ≡ length classes.now * machine.actions }
-    requires first { s < length classes.now }
-    requires second { t < length classes.now }
-    ensures { Decides (SameSignature machine.entry.actions machine.entry.next.now classes.now s t) result }
-{
-    class_of(classes, s) == class_of(classes, t)
-        && (0..machine.actions).all(|a| {
-            class_of(classes, machine.target(s, a)) == class_of(classes, machine.target(t, a))
-        })
-}
-
 // The lowest class whose first member has the signature of s, or none where no first member has it. The search begins at the class of s so far.
+// A first member is left for the next, by label, at the first difference.
 pub fn find_class(
     machine: Transitions<'_>,
     classes: &[u8],
@@ -38,6 +25,20 @@ pub fn find_class(
     requires { Searchable machine.actions count s machine.next.now classes.now firsts.now }
     ensures { FindsClass machine.entry.actions machine.entry.next.now classes.now firsts.now count s result }
 {
-    let lowest = usize::from(class_of(classes, s));
-    (lowest..count).find(|&c| same_signature(machine, classes, firsts[c], s))
+    let class = class_of(classes, s);
+    let lowest = usize::from(class);
+    'rows: for c in lowest..count {
+        let first = firsts[c];
+        if class_of(classes, first) != class {
+            continue 'rows;
+        }
+        for a in 0..machine.actions {
+            let behind = class_of(classes, machine.target(s, a));
+            if class_of(classes, machine.target(first, a)) != behind {
+                continue 'rows;
+            }
+        }
+        return Some(c);
+    }
+    None
 }

@@ -1,26 +1,44 @@
 -- The goals of `signatures::find_class` that the check leaves.
-use Rattle.std.proofs.Common.{◌≡◌, ℕ, ◌≤◌, ◌<◌, Option, Some, None, arith, rules, tests, List}
-use Rattle.std.specs.Option.{MatchOption}
-use native.Mathlib.Decide.{dec_lt}
-use Rattle.std.proofs.lemmas.Iterator.{first_from_Range}
-use Rattle.automaton.specs.Partition.{class_of, first_of, SameSignature, FindsClass, Searchable}
+use mathlib.Core.Path.{sym, ◌∙◌}
+use Prim.Native.Nat.{◌+◌, ◌*◌, ◌≤◌}
+use native.Mathlib.Omega.{arith}
+use borrow.Author.Count.{below_more}
+use lib.ListN.{length}
+use Rattle.automaton.specs.Partition.{first_of}
+use Rattle.automaton.proofs.Compared.{entries-within}
 use Rattle.automaton.proofs.Rising.{none-lower}
 use Rattle.signatures.proofs.find_class.Goals as goal
+use Rattle.signatures.proofs.find_class.Goals.{Start, In-rows}
 
--- the first class from that of s so far whose first member has the signature of s is the lowest
-lowest : {actions count s : ℕ} {next classes firsts : List ℕ} (start : ℕ) → Searchable actions count s next classes firsts → start ≡ class_of classes s → (r : Option ℕ)
-    → MatchOption r ((c : ℕ) → start ≤ c → c < count → SameSignature actions next classes (first_of firsts c) s → ⊥)
-    (λ f. (start ≤ f) × (f < count) × SameSignature actions next classes (first_of firsts f) s
-    × ((c : ℕ) → start ≤ c → c < f → SameSignature actions next classes (first_of firsts c) s → ⊥))
-    → FindsClass actions next classes firsts count s r
-lowest start p e None h = λ c l. elim (dec_lt c start) [ yes q ↦ none-lower p c (omega arith) | no q ↦ h c (omega arith) l ]
-lowest start p e (Some f) h =
-    record { within = h.1; here = h.2; lowest = λ c l. elim (dec_lt c start) [ yes q ↦ none-lower p c (omega arith) | no q ↦ h.3 c (omega arith) l ] }
+-- the entries of the first member of class c
+first-within : (c : In-rows) → let z : Start = (goal.at.In-rows c).Start in
+    first_of z.args.firsts.now c.rows.c * z.args.machine.actions + z.args.machine.actions ≤ length z.args.machine.next.now
+first-within c =
+    let z = (goal.at.In-rows c).Start in
+    entries-within (length z.args.classes.now) z.args.machine.actions (length z.args.machine.next.now) (first_of z.args.firsts.now c.rows.c) z.requires.sized
+    (z.requires.inside c.rows.c c.rows-test.true)
 
-pub returns : goal.returns
-returns c =
-    lowest _ c.requires (search rules) c.find.result
-    (first_from_Range _ _ _ _
-    (λ d. SameSignature c.args.machine.actions c.args.machine.next.now c.args.classes.now (first_of c.args.firsts.now d) c.args.s)
-    (λ d. SameSignature c.args.machine.actions c.args.machine.next.now c.args.classes.now (first_of c.args.firsts.now d) c.args.s → ⊥)
-    c.find.ensures.ran (λ x q k. search (rules, tests)) (λ x q k. (search rules, search (rules, tests))))
+pub rows-init : goal.rows-init
+rows-init c = λ d h. none-lower c.requires d (omega arith)
+
+pub loop-a-init : goal.loop-a-init
+loop-a-init c = λ k h. absurd (omega arith)
+
+pub target-requires-in-loop-a : goal.target-requires-in-loop-a
+target-requires-in-loop-a c = omega (arith, first-within (goal.at.target-requires-in-loop-a c).In-rows)
+
+pub loop-a-preserved : goal.loop-a-preserved
+loop-a-preserved c = below_more _ _ c.loop-a.invariant (cc)
+
+pub returns-in-rows : goal.returns-in-rows
+returns-in-rows c =
+    let r = (goal.at.returns-in-rows c).In-rows in
+    record {
+      within = r.rows-test.true;
+      here =
+          record {
+            class = sym c.class_of.ensures ∙ c.if-class_of-class.false ∙ r.class_of-class.ensures;
+            behind = λ k h. c.loop-a.invariant k (omega arith);
+          };
+      lowest = r.rows.invariant;
+    }
