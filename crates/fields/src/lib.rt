@@ -44,7 +44,7 @@ pub fn find(bytes: &[u8], from: usize, mark: u8) -> usize
     }
 }
 
-// The field of this number, from 0; nothing where there is none.
+// The field of this number, from 0; nothing where there is none. By `split` and `nth` the goal `returns` did not close (`option_map .. nth.result`).
 pub fn field(bytes: &[u8], mark: u8, number: usize) -> &[u8]
     ensures { result.now ≡ get_or (split_by mark bytes.now) number [] }
 {

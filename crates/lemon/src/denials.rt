@@ -155,7 +155,7 @@ fn ask_rule(
     ask_sheet(rt, found, file, rule, front(&area, length), list)
 }
 
-// Asks the rules of a file one after the other. Tells why where one is refused.
+// Asks the rules of a file one after the other. Tells why where one is refused. A loop shared with make_rules is no plainer: both end it by `?`.
 fn ask_rules(
     rt: &HostRuntime,
     file: &[u8],
