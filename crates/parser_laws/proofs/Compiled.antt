@@ -16,7 +16,7 @@ use Rattle.table.specs.Table.{type_of, actions_of, verdict}
 use Rattle.table.specs.Answer.{Answer, accepted, refused, mode_number}
 use Rattle.typing.specs.Typed.{sound}
 use Rattle.syntax.specs.declared.Sheet.{Sheet}
-use Rattle.syntax.specs.declared.TypedNode.{TypedNode}
+use Rattle.syntax.specs.declared.NodeType.{NodeType}
 use Rattle.sheet_judge.specs.Judge.{judge}
 use Rattle.grammar.specs.Words.{words_of}
 use Rattle.grammar.specs.Grammar.{TextRule, Reads}
@@ -40,11 +40,11 @@ use Rattle.parser_laws.proofs.Passing.{text-sound, text-sound-as, text-never-fau
 record Moded (bytes : List ℕ) (type : ℕ) : Type 0 where
   mode : Mode
   sheet : Sheet
-  types : List TypedNode
+  types : List NodeType
   judged : judge bytes ≡ sound mode sheet types
   type-is : type ≡ mode_number mode
 
-built-type : {mode : Mode} {sheet : Sheet} {types : List TypedNode} {limits : Limits} {type actions rows : ℕ} {table : List ℕ}
+built-type : {mode : Mode} {sheet : Sheet} {types : List NodeType} {limits : Limits} {type actions rows : ℕ} {table : List ℕ}
     → Builds mode sheet types limits (accepted type actions rows) table → type ≡ mode_number mode
 built-type (builds tables built last) = refl
 
@@ -83,7 +83,7 @@ module _ {text actions out out'' : List ℕ} {bytes count nodes : ℕ} (call : R
   text-compiled-actions = table_of.actions-are ∙ table_of.listed
 
 -- a refusal of building: 8 or 9
-over-number : {mode : Mode} {sheet : Sheet} {types : List TypedNode} {limits : Limits} {number spot : ℕ} {table : List ℕ}
+over-number : {mode : Mode} {sheet : Sheet} {types : List NodeType} {limits : Limits} {number spot : ℕ} {table : List ℕ}
     → Builds mode sheet types limits (refused number spot) table → (number ≡ 8) ⊎ (number ≡ 9)
 over-number (stops tables n number h built p (values over)) = inl refl
 over-number (stops tables n number h built p (rows few over)) = inr refl

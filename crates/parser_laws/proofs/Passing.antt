@@ -9,7 +9,7 @@ use Rattle.trace.specs.declared.Mode.{Mode}
 use Rattle.typing.specs.Typed.{faulty, sound, judge_sheet}
 use Rattle.syntax.specs.declared.Fault.{Fault}
 use Rattle.syntax.specs.declared.Sheet.{Sheet}
-use Rattle.syntax.specs.declared.TypedNode.{TypedNode}
+use Rattle.syntax.specs.declared.NodeType.{NodeType}
 use Rattle.sheet_reading.specs.ReadFrom.{ReadFrom}
 use Rattle.sheet_judge.specs.Judge.{judge}
 use Rattle.sheet_reading.specs.Reading.{read_nodes, read_actions}
@@ -73,7 +73,7 @@ module _ {text actions out out'' : List ℕ} {bytes count nodes : ℕ} (call : R
       }
 
   -- They pass checks 6 and 7 too: they are judged sound, with the rule's mode.
-  pub text-sound : (types : List TypedNode) × (judge (take bytes out'') ≡ sound rule.mode sheet types)
+  pub text-sound : (types : List NodeType) × (judge (take bytes out'') ≡ sound rule.mode sheet types)
   text-sound = let t = text-typed actions read small in (t.0, judged ∙ t.1)
 
   -- So no fault ever comes: none of 1 to 7.
@@ -81,6 +81,6 @@ module _ {text actions out out'' : List ℕ} {bytes count nodes : ℕ} (call : R
   text-never-faulty f e = let d = text-sound.1 in let z : ◌≡◌ {A = ℕ} 0 1 = cc in omega arith
 
   -- And they are read as no other sheet, and of no other mode.
-  pub text-sound-as : {mode : Mode} {other : Sheet} {types : List TypedNode} → judge (take bytes out'') ≡ sound mode other types
+  pub text-sound-as : {mode : Mode} {other : Sheet} {types : List NodeType} → judge (take bytes out'') ≡ sound mode other types
       → (mode ≡ rule.mode) × (other ≡ sheet)
   text-sound-as e = let d = text-sound.1 in (cc, cc)
