@@ -22,10 +22,6 @@ put_in true n s i h = ap (λ (x : ℕ). bit x i) (sym (rw (one-mul (2 ^ n)) at (
 put_in false n s i h = rw (zero-add s)
 
 module _ (test : ℕ → Bool) where
-  -- one number more
-  pub set-in : (n : ℕ) → test n ≡ true → set_below test (suc n) ≡ 2 ^ n + set_below test n
-  set-in n e = rw e
-
   pub set_out : (n : ℕ) → test n ≡ false → set_below test (suc n) ≡ set_below test n
   set_out n e = rw e (zero-add (set_below test n))
 

@@ -90,11 +90,3 @@ module _ {mark : ℕ} {bytes : List ℕ} {from to : ℕ} (e : EndsField mark byt
 -- nothing stands between a position and itself
 pub none_between : (mark : ℕ) (bytes : List ℕ) (from : ℕ) → between bytes from from ≡ []
 none_between mark bytes from = let z : from - from ≡ 0 = omega arith in rw z
-
--- what stands between two positions is what is left of the first bytes
-pub between-front : (bytes : List ℕ) (from to : ℕ) → drop from (take to bytes) ≡ between bytes from to
-between-front bytes zero to = let z : to - 0 ≡ to = omega arith in rw z
-between-front [] (suc from) zero = sym (take-nil (zero - suc from))
-between-front (x ∷ bytes) (suc from) zero = let z : zero - suc from ≡ 0 = omega arith in rw z
-between-front [] (suc from) (suc to) = sym (take-nil (suc to - suc from))
-between-front (x ∷ bytes) (suc from) (suc to) = let z : suc to - suc from ≡ to - from = omega arith in rw z (between-front bytes from to)

@@ -16,11 +16,6 @@ use Rattle.rules.specs.Rules.{slot_at}
 use Rattle.joining.specs.Tables.{table_at, Fit, AllOver}
 use Rattle.joining.specs.Reading.{SlotHolds}
 
-pub drop-replicate : (n m x : ℕ) → drop n (replicate m x) ≡ replicate (m - n) x
-drop-replicate zero m x = ap (λ (k : ℕ). replicate k x) (let e : m ≡ m - 0 = omega arith in e)
-drop-replicate (suc n) zero x = ap (λ (k : ℕ). replicate k x) (let e : 0 ≡ 0 - suc n = omega arith in e)
-drop-replicate (suc n) (suc m) x = drop-replicate n m x ∙ ap (λ (k : ℕ). replicate k x) (let e : m - n ≡ suc m - suc n = omega arith in e)
-
 -- past its end a list reads as the mark, and so do marks behind it
 pub padded : (l : List ℕ) (n mark k : ℕ) → get_or (l ++ replicate n mark) k mark ≡ get_or l k mark
 padded l n mark k =
@@ -57,9 +52,6 @@ module _ (bytes : List ℕ) (f : Fit (front_table bytes)) where
 pub record Laying (input : List ℕ) (actions i : ℕ) (work : List ℕ) : Type 0 where
   pub over : AllOver actions i input
   pub slots : (j : ℕ) → j < i → SlotHolds (slot_at work j) (table_at input j)
-
-pub none-laid : (input : List ℕ) (actions : ℕ) (work : List ℕ) → Laying input actions 0 work
-none-laid input actions work = record { over = λ j h. absurd (omega arith); slots = λ j h. absurd (omega arith) }
 
 pub lay-more : {input : List ℕ} {actions i : ℕ} {work : List ℕ} → Laying input actions i work → actions_of (table_at input i) ≡ actions
     → (behind : List ℕ) → ((j : ℕ) → (j ≡ i → ⊥) → slot_at behind j ≡ slot_at work j) → SlotHolds (slot_at behind i) (table_at input i)

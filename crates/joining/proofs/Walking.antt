@@ -59,10 +59,6 @@ module _ (bytes : List ℕ) where
         let e : 8 + rows * actions ≡ table_length bytes = rw (← a.2, ← a.3, front-actions bytes, front-rows bytes) refl in
         record { fit = f; sized = e; inside = subst (λ (n : ℕ). n ≤ length bytes) (sym e) (front-size bytes f).0 }
 
--- no table yet
-pub none-fit : (input : List ℕ) → AllFit 0 input 0
-none-fit input = record { fit = λ i h. absurd (omega arith); inside = omega arith; behind = refl }
-
 module _ {i : ℕ} {input : List ℕ} {at : ℕ} (w : AllFit i input at) where
   -- the next table stands at the front of what is behind
   next-table : front_table (drop at input) ≡ table_at input i

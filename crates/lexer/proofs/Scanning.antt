@@ -12,10 +12,6 @@ use Rattle.grammar.specs.Words.{is_blank, words_of, Solid, Ended}
 use Rattle.grammar.proofs.Parted.{blank-ahead, word-ahead}
 use Rattle.lexer.specs.Next.{words_from, EndsWord}
 
--- A blank is passed over.
-pub blank-passed : (text : List ℕ) (k : ℕ) → k < length text → is_blank (get_or text k 0) ≡ true → words_from text k ≡ words_from text (k + 1)
-blank-passed text k h e = rw (add-one, drop-cons text k 0) (blank-ahead (get_or text k 0) (drop (suc k) text) e)
-
 -- There are no words behind the text.
 pub no_words : (text : List ℕ) (k : ℕ) → length text ≤ k → words_from text k ≡ []
 no_words text k h = rw (drop_of_length-le text h)

@@ -22,9 +22,6 @@ module _ {actions : ℕ} {step : Step ℕ} {start : ℕ} {limits : Limits} {slot
   rows_are : RowsFor actions step start limits.rows rows (take (rows * actions) (slot_at behind slot))
   rows_are = subst (λ (k : ℕ). RowsFor actions step start limits.rows k (take (k * actions) (slot_at behind slot))) w.counted w.built.rows-for
 
-  pub few-rows : limits.rows ≤ 64 → rows ≤ 64
-  few-rows limit = le_trans rows_are.few limit
-
 module _ {type actions : ℕ} {step : Step ℕ} {start : ℕ} {limits : Limits} where
   pub nothing-made : (out : List ℕ) (slot : ℕ) (over : OverLimit) (before behind : List ℕ) → BuildsTo actions step start limits slot (Err over) before behind
       → WritesTo (MachineMakes type actions step start limits) (answer_of (Err over)) out out

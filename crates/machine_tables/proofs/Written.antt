@@ -15,14 +15,8 @@ module _ {actions rows slot : ℕ} {work out : List ℕ} (w : RowsWritable actio
   pub size_small : rows * actions ≤ 1024
   size_small = mul-le-mul {n₂ = 64} {m₂ = 16} w.few w.listed
 
-  pub part-inside : slot * 1024 + rows * actions ≤ length work
-  part-inside = omega (arith, size_small, w.inside, w.bytes)
-
   abbrev part : List ℕ
   part = mid_of (slot * 1024) (slot * 1024 + rows * actions - slot * 1024) work
-
-  pub part-fits : 8 + length (mid_of (slot * 1024) (slot * 1024 + rows * actions - slot * 1024) work) ≤ length out
-  part-fits = omega (arith, mid_len (slot * 1024) (slot * 1024 + rows * actions) work part-inside, size_small, w.output)
 
   pub written : (type : ℕ) (left : List ℕ)
       → left ≡ table_bytes type actions rows (mid_of (slot * 1024) (slot * 1024 + rows * actions - slot * 1024) work)

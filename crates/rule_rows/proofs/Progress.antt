@@ -47,10 +47,6 @@ Advances rules count actions limits n (Err limit) work = NodeOver rules count ac
 
 module _ {rules : List (Option NodeRule)} {count actions : ℕ} {limits : Limits} {work₀ values₀ : List ℕ}
     (lent : AllBuildable rules count actions limits work₀ values₀) where
-  -- before the first node
-  pub built-none : (work : List ℕ) → BuiltTo rules actions limits 0 work × LastRows rules actions limits 0 0 work
-  built-none work = (record { each = λ i h. absurd (omega arith) }, record { newest = λ m h. absurd (omega arith) })
-
   module _ {n : ℕ} (inside : n < count) {before : List ℕ} (built : BuiltTo rules actions limits n before) where
     part-readable : (i : ℕ) → EarlierRule rules n i → Readable before i
     part-readable i e =

@@ -26,24 +26,8 @@ any q a = trip
 
 -- two bytes: both parts trip where they are the last pair, and either trips where one is the last byte
 module _ (l r : ℕ) where
-  pub both-trip : l < 256 → r < 256 → l * 256 + r ≡ 65535 → trip ≡ encode_move (both_r any any) (both_move (byte_move l) (byte_move r))
-  both-trip h i e = rw (eq-eqb l 255 (omega arith), eq-eqb r 255 (omega arith))
-
-  pub both-goes : (l * 256 + r ≡ 65535 → ⊥) → go (l * 256 + r) ≡ encode_move (both_r any any) (both_move (byte_move l) (byte_move r))
-  both-goes h = elim (ℕ_discrete l 255) [ yes p ↦ tripped p | no q ↦ rw (ne_eqb l 255 q, byte-moved r) ]
-    where
-      tripped : l ≡ 255 → go (l * 256 + r) ≡ encode_move (both_r any any) (both_move (byte_move l) (byte_move r))
-      tripped p = rw (eq-eqb l 255 p, ne_eqb r 255 (omega arith), p)
-
   pub either_left : l ≡ 255 → trip ≡ encode_move (either_r any any) (either_move (byte_move l) (byte_move r))
   either_left e = rw (eq-eqb l 255 e)
-
-  pub either-right : (l ≡ 255 → ⊥) → r ≡ 255 → trip ≡ encode_move (either_r any any) (either_move (byte_move l) (byte_move r))
-  either-right h e = rw (ne_eqb l 255 h, eq-eqb r 255 e)
-
-  pub either-goes : (l ≡ 255 → ⊥) → (r ≡ 255 → ⊥)
-      → go (l * 256 + r) ≡ encode_move (either_r any any) (either_move (byte_move l) (byte_move r))
-  either-goes h i = rw (ne_eqb l 255 h, ne_eqb r 255 i)
 
 -- a row is its own number: the same equation for Not and Ignoring
 pub plain : (m : Move ℕ) → m ≡ encode_move (same-r any) m
@@ -57,16 +41,3 @@ copied-code f set a m e = e ∙ set_code (move_all f set a)
     set_code : (m : Move ℕ) → m ≡ encode_move (copied-r f) m
     set_code trip = refl
     set_code (go v) = refl
-
--- a part's row under the mark of After and of Fulfilling
-pub marked-code : (m : Move ℕ) → go_with (λ q. 256 + q) m ≡ encode_move (after-r any any) (go_with marked m)
-marked-code trip = refl
-marked-code (go r) = refl
-
-pub kept-code : (k : ℕ) (m : Move ℕ) → go_with (λ q. 65536 + q) m ≡ encode_move (fulfilling-r k any any any) (go_with kept m)
-kept-code k trip = refl
-kept-code k (go r) = refl
-
-pub missed-code : (k : ℕ) (m : Move ℕ) → go_with (λ q. 131072 + q) m ≡ encode_move (fulfilling-r k any any any) (go_with missed m)
-missed-code k trip = refl
-missed-code k (go r) = refl

@@ -44,9 +44,6 @@ module _ (view : View) (action : ℕ) where
         reported = add_comm fulfilled (cond f (2 ^ n) 0) ∙ ap₂ (λ (b : Bool) (m : ℕ). cond b (2 ^ n) 0 + m) s.reported w.reported;
       })
 
-  pub scans-none : Scans 0 view action (record { actions = None; places = places_by 0 (λ i. Empty); denying = 0; fulfilled = 0 })
-  scans-none = record { surveys = survey-none view; sweeps = λ p. record { goes = refl; denied = refl; reported = refl } }
-
   pub scans-taken : (n : ℕ) (s : Scanned) (read : RuleRead) (case : Case) (d f : Bool)
       → Scans n view action s → FitsWith (view.table n) (view.case n) action read → admitted s.actions read.actions ≡ true → MovesBy (view.case n) read.entry case d f
       → Scans (n + 1) view action (record { actions = Some read.actions; places = set s.places n (place_in case); denying = s.denying + cond d (2 ^ n) 0; fulfilled = s.fulfilled + cond f (2 ^ n) 0 })

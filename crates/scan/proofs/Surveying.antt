@@ -36,13 +36,6 @@ module _ (view : View) where
   abbrev SameAt : ℕ → ℕ → Type 0
   SameAt actions i = taken (view.case i) ≡ true → actions_of (view.table i) ≡ actions
 
-  -- a board that can be can be with fewer places
-  pub fewer : (n m : ℕ) → n ≤ m → Possible m view → Possible n view
-  fewer n m l p = record { fits = λ i h. p.fits i (omega arith); one = λ i j h g. p.one i j (omega arith) (omega arith) }
-
-  pub survey-none : Surveys 0 view None
-  survey-none = (record { fits = λ i h. absurd (let z = h in omega arith); one = λ i j h. absurd (let z = h in omega arith) }, λ i h. absurd (let z = h in omega arith))
-
   module _ (n : ℕ) where
     -- a place more, under which all taken places are over so many actions
     over-more : (actions : ℕ) → Possible n view → SameActions n view actions → CaseFits (view.table n) (view.case n) → SameAt actions n → Occupied (n + 1) view
@@ -73,9 +66,3 @@ module _ (view : View) where
         let o = s.some in
         over-more known s.possible s.same (fits-untaken (view.table n) (view.case n) e) (λ t. not-both (sym t ∙ e))
         (record { place = o.place; below = omega (arith, o.below); on = o.on })
-
-    -- a rule over other actions than those on the board
-    pub cannot-join : (known : Option ℕ) (action : ℕ) (read : RuleRead) → Surveys n view known → FitsWith (view.table n) (view.case n) action read
-        → admitted known read.actions ≡ false → Possible (n + 1) view → ⊥
-    cannot-join known action read s f a p =
-        other-actions n view known read.actions s a (λ i h t. p.one i n (omega arith) (omega arith) t f.on ∙ f.acting)

@@ -15,9 +15,6 @@ use Rattle.sheet_layout.specs.declared.Layout.{Layout}
 use Rattle.sheet_layout.specs.Layout.{layout_in, action_count, node_count, actions_at, nodes_at, actions_end, nodes_end, total, length_right, counts_right, areas_right, behind_header, inside_total, apart, in_range, layout_of, WellLaid, Inside}
 use Rattle.syntax.specs.declared.Fault.{Fault}
 
-pub long-enough : (bytes : List ℕ) → length_right bytes ≡ true → 9 < length bytes
-long-enough bytes e = leb-true 10 (length bytes) (and-true _ (eqb (total bytes) (length bytes)) e).0
-
 misplaced : {A : Type 0} {f : Fault} {l : Layout} → Err f ≡ Ok l → A
 misplaced e = cc
 
@@ -77,16 +74,3 @@ module _ (bytes : List ℕ) where
 
     pub from-laid : WellLaid bytes × (l ≡ layout_in bytes)
     from-laid = let h = all_right (length_right bytes) (counts_right bytes) (areas_right bytes) refl refl refl in (h.0, sym h.1)
-
-    -- the two areas lie inside the bytes
-    pub actions-within : Inside bytes l.actions_at 2 l.actions 16
-    actions-within =
-        let h = from-laid in
-        let w = h.0 in
-        rw h.1 (record { few = w.few-actions; inside = omega (arith, w.actions-inside, w.whole) })
-
-    pub nodes-within : Inside bytes l.nodes_at 5 l.nodes 64
-    nodes-within =
-        let h = from-laid in
-        let w = h.0 in
-        rw h.1 (record { few = w.few-nodes; inside = omega (arith, w.nodes-inside, w.whole) })

@@ -34,17 +34,3 @@ wrote_as {n} {x} {y} {a} {b} e w =
 -- The bytes of a node are those of a list of one.
 pub wrote_one : (node : Node) {n : ℕ} {x y : List ℕ} → WroteOne (node_bytes node) n x y → Wrote (node ∷ []) n x y
 wrote_one node w = record { sized = w.sized; front = λ h. rw append-nil (w.front h) }
-
--- Bytes of one node, where there is room and where there is none.
-pub wrote-bytes : (bytes : List ℕ) (n : ℕ) (x y : List ℕ) → n < 64 → length x ≡ node_room → length bytes ≡ 5 → y ≡ sets x (5 * n) bytes → WroteOne bytes n x y
-wrote-bytes bytes n x y h l five s = record { sized = ap length s ∙ length-sets x (5 * n) bytes; front = front }
-  where
-    front : n + 1 ≤ 64 → take (5 * (n + 1)) y ≡ take (5 * n) x ++ bytes
-    front g =
-        let e = sets-eq bytes x (5 * n) (omega arith) in
-        let t = length-take (5 * n) x in
-        let k : length (take (5 * n) x ++ bytes) ≡ 5 * (n + 1) = length-append (take (5 * n) x) bytes ∙ omega arith in
-        rw (s, e) (take_at (take (5 * n) x ++ bytes) (drop (5 * n + length bytes) x) (5 * (n + 1)) k)
-
-pub wrote-past : (bytes : List ℕ) (n : ℕ) (x : List ℕ) → 64 ≤ n → WroteOne bytes n x x
-wrote-past bytes n x h = record { sized = refl; front = λ g. absurd (omega arith) }
