@@ -25,7 +25,7 @@ use Rattle.scan.specs.Survey.{FitsWith, OverActions, admitted}
 use Rattle.scan.specs.Scans.{Sweeps, Playable, Scans}
 use Rattle.scan.specs.declared.survey.RuleRead.{RuleRead}
 use Rattle.scan.specs.declared.pass.Scanned.{Scanned}
-use Rattle.scan.proofs.Surveying.{survey-none, survey-taken, survey-empty}
+use Rattle.scan.proofs.Surveying.{survey-taken, survey-empty}
 
 -- an action of a list is in that of the rules before it
 playable-before : (known : Option ℕ) (actions action : ℕ) → admitted known actions ≡ true → action < actions → Playable known action
