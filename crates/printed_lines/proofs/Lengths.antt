@@ -60,3 +60,6 @@ length-table mode actions rows entries h g =
 
 -- how long the pieces of rows can be
 pub ruleset lengths = (length-append, length-next, length-entries, length-row, length-rows)
+
+-- how long the counts can be
+pub ruleset counted = (length-append, length-counts)

@@ -29,11 +29,13 @@ fn put_spaced<const N: usize>(n: usize, text: &mut Text<N>)
 }
 
 // The two numbers that end a first line.
+#[tactic(auto, using(crate::proofs::Lengths::counted))]
 pub fn put_counts<const N: usize>(first: usize, second: usize, text: &mut Text<N>)
     requires first_bound { first < 1000 }
     requires second_bound { second < 1000 }
     requires room { length text.old + 9 ≤ N }
-    ensures { text.new ≡ text.old ++ counts first second }
+    ensures written { text.new ≡ text.old ++ counts first second }
+    ensures longer { length text.new ≤ length text.old + 9 }
 {
     put_spaced(first, text);
     put_spaced(second, text);
