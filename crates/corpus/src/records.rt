@@ -1,5 +1,5 @@
 // The blocks of a corpus, and its records one after the other.
-ghost use Rattle.std.specs.Prelude.{◌<◌, IfSome};
+ghost use Rattle.std.specs.Prelude.{◌≤◌, ◌<◌, length, IfSome};
 
 use crate::numbers::number_at;
 use base::room;
@@ -23,7 +23,9 @@ fn read_number(rt: &impl Input) -> Option<usize>
 }
 
 // The next block, in `room`. There is none where the input ends before it does, or where it is longer than the room.
-pub fn read_block<'a>(rt: &impl Input, room: &'a mut [u8]) -> Option<&'a [u8]> {
+pub fn read_block<'a>(rt: &impl Input, room: &'a mut [u8]) -> Option<&'a [u8]>
+    ensures { IfSome result (λ b. length b.now ≤ length room.old) }
+{
     let size = read_number(rt)?;
     if room.len() < size {
         return None;
@@ -43,6 +45,7 @@ pub fn run<R: Input, F: FnMut(&[u8], &mut [u64]) -> Option<()>>(
     mut rest: F,
 ) -> Progress
     requires { F.IsAlwaysCallable rest }
+    ensures { result.done < 65536 }
 {
     let Some(records) = read_number(rt) else {
         return Progress {
