@@ -5,3 +5,4 @@ pub mod Marks
 pub mod Nodes
 pub mod Sequences
 pub mod Truths
+pub mod Types

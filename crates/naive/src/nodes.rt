@@ -1,6 +1,6 @@
 // The nodes of a sheet: their fields, checks 4 and 5, and which of them the policy uses.
-ghost use Rattle.std.specs.Prelude.{◌≡◌, ◌-◌, ◌<◌, length, get_or, true, false};
-ghost use Rattle.naive.specs.Nodes.{node_place, FieldsAt};
+ghost use Rattle.std.specs.Prelude.{◌≡◌, ◌-◌, ◌<◌, length, get_or, true, false, IfErr};
+ghost use Rattle.naive.specs.Nodes.{node_place, check_number, FieldsAt};
 ghost use Rattle.naive.specs.Marks.{MoreMarked};
 
 use crate::bytes::{at, room};
@@ -27,7 +27,9 @@ fn parts_fit(fields: Fields, parts: usize, n: usize) -> bool {
 }
 
 // Checks 4 and 5 of node n.
-pub fn read_node(fields: Fields, n: usize) -> Result<Node, Check> {
+pub fn read_node(fields: Fields, n: usize) -> Result<Node, Check>
+    ensures { IfErr result (λ check. check_number check < 6) }
+{
     let Fields {
         kind,
         argument,

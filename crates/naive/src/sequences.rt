@@ -57,7 +57,9 @@ pub fn number_of(letters: &[u8], actions: usize) -> usize
 }
 
 // Writes the actions of a sequence to the end of `letters`, as far as they fit, and answers them.
-pub fn spell<'a>(s: usize, actions: usize, letters: &'a mut [u8]) -> &'a [u8] {
+pub fn spell<'a>(s: usize, actions: usize, letters: &'a mut [u8]) -> &'a [u8]
+    ensures { length result.now ≤ length letters.old }
+{
     let mut rest = s;
     let mut from = letters.len();
     while 0 < rest && 0 < from && 0 < actions {

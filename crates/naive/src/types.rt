@@ -1,4 +1,8 @@
 // Checks 6 and 7 of one node.
+ghost use Rattle.std.specs.Prelude.{◌<◌, IfOk, IfErr};
+ghost use Rattle.naive.specs.Nodes.{check_number};
+ghost use Rattle.naive.specs.Types.{Bounded};
+
 use crate::{Check, Formula, Mode, Node, Policy};
 
 // What a node is: a formula, or a policy with its mode and its bound, where it has one.
@@ -89,7 +93,10 @@ fn formula_fits(formula: Formula, types: &[Type]) -> bool {
 }
 
 // Checks 6 and 7: the type of a node from the types of its parts.
-pub fn type_of(node: Node, types: &[Type]) -> Result<Type, Check> {
+pub fn type_of(node: Node, types: &[Type]) -> Result<Type, Check>
+    ensures found { IfOk result Bounded }
+    ensures refused { IfErr result (λ check. check_number check < 8) }
+{
     match node {
         Node::Formula(formula) => {
             if formula_fits(formula, types) {
