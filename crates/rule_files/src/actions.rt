@@ -1,5 +1,7 @@
 // The action list: a word an action, the propositions that hold of it joined by `+`, or `-` where none does. The action's name may stand before them,
 // joined by `=`.
+ghost use Rattle.std.specs.Prelude.{◌≤◌, ◌<◌, length, IfSome, IfErr};
+
 use crate::words::{find, is_plain, word_at, words_of};
 use grammar::Token;
 use lexer::token_of;
@@ -52,19 +54,25 @@ fn read_action(word: &[u8]) -> Option<u16> {
 }
 
 // What stands before the `=` of a word, all of it where there is none.
-fn name_of(word: &[u8]) -> &[u8] {
+fn name_of(word: &[u8]) -> &[u8]
+    ensures { length result.now ≤ length word.now }
+{
     &word[..find(word, 0, b'=')]
 }
 
 // The number of the first of a list's words that has the name; only the first 255 words are looked at.
-pub fn action_named(list: &[u8], name: &[u8]) -> Option<usize> {
+pub fn action_named(list: &[u8], name: &[u8]) -> Option<usize>
+    ensures { IfSome result (λ n. n < 255) }
+{
     words_of(list)
         .take(255)
         .position(|word| name_of(word) == name)
 }
 
 // The name of an action of a list, if it has one.
-pub fn name_at(list: &[u8], number: usize) -> Option<&[u8]> {
+pub fn name_at(list: &[u8], number: usize) -> Option<&[u8]>
+    ensures { IfSome result (λ n. length n.now ≤ length list.now) }
+{
     let name = name_of(word_at(list, number));
     if is_name(name) { Some(name) } else { None }
 }
@@ -83,14 +91,16 @@ fn keep(sets: &mut [u16], number: usize, set: u16) {
 }
 
 // Reads a list, keeps the sets of the actions that there is room for, and answers how many actions there are.
-pub fn read_actions<'a>(list: &'a [u8], sets: &mut [u16]) -> Result<usize, WrongWord<'a>> {
+pub fn read_actions<'a>(list: &'a [u8], sets: &mut [u16]) -> Result<usize, WrongWord<'a>>
+    ensures { IfErr result (λ w. length w.word.now ≤ length list.now) }
+{
     for (behind, word) in words_of(list).enumerate() {
         let set = read_action(word);
         let doubled = set.is_some() && is_doubled(list, word, behind);
         match set {
             Some(set) if !doubled => keep(sets, behind, set),
             _ => return Err(WrongWord {
-                word,
+                word: word_at(list, behind),
                 behind,
                 doubled,
             }),

@@ -74,7 +74,9 @@ pub fn word_behind(text: &[u8], n: usize) -> Span
 }
 
 // The word after the first n; empty where there is none.
-pub fn word_at(text: &[u8], n: usize) -> &[u8] {
+pub fn word_at(text: &[u8], n: usize) -> &[u8]
+    ensures { length result.now ≤ length text.now }
+{
     let Span { from, to } = word_behind(text, n);
     &text[from..to]
 }
