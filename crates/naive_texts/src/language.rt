@@ -1,5 +1,5 @@
 // The language as it is written down: which words may stand where something of a category is to come, with the categories of their parts.
-ghost use Rattle.std.specs.Prelude.{◌≤◌, ◌<◌, IfSome};
+ghost use Rattle.std.specs.Prelude.{◌≡◌, ◌≤◌, ◌<◌, IfSome};
 
 use crate::Fit;
 use naive::at;
@@ -14,7 +14,7 @@ const NUMBERS: usize = 26;
 // Byte i of a line of the language. A line has 21: a newline, the category, the word, the categories of its parts, and the kind of its node, 0 for
 // none. No word is that of one of the last two lines, which have blanks in them.
 fn language(line: usize, i: usize) -> usize
-    requires { (line < 27) × (i ≤ 20) }
+    requires { (line ≤ 27) × (i ≤ 20) }
     ensures { result < 256 }
 {
     at(
@@ -52,7 +52,7 @@ K 1 to 60          0",
 
 // The category of part i of the word of a line, or a blank.
 pub fn part(line: usize, i: usize) -> usize
-    requires { (line < 27) × (i < 4) }
+    requires { (line ≤ 27) × (i < 4) }
     ensures { result < 256 }
 {
     language(line, 14 + i)
@@ -65,7 +65,8 @@ fn is_node(category: usize) -> bool {
 
 // How many nodes a node of a line has as its parts.
 pub fn parts_of(line: usize) -> u8
-    requires { line < 27 }
+    requires { line ≤ 27 }
+    ensures { result ≤ 4 }
 {
     let mut parts = 0;
     for i in 0..4 {
@@ -78,7 +79,7 @@ pub fn parts_of(line: usize) -> u8
 
 // The kind of the node of a line.
 pub fn kind_of(line: usize) -> usize
-    requires { line < 27 }
+    requires { line ≤ 27 }
     ensures { result < 256 }
 {
     10 * (language(line, 19) % 16) + language(line, 20) % 16
@@ -91,7 +92,7 @@ fn letter(word: &[u8], i: usize) -> usize {
 
 // Whether a line has the word, for the category.
 fn line_has(line: usize, category: usize, word: &[u8]) -> bool
-    requires { line < 27 }
+    requires { line ≤ 27 }
 {
     if 10 < word.len() || language(line, 1) != category {
         return false;
@@ -131,8 +132,8 @@ fn spells(word: &[u8], k: usize) -> bool
 
 // The line, and the number of this range that a word is.
 fn number_in(line: usize, least: usize, most: usize, word: &[u8]) -> Option<Fit>
-    requires { (line < 27) × (most < 100) }
-    ensures { IfSome result (λ fit. fit.line < 27) }
+    requires { (line ≤ 27) × (most < 100) }
+    ensures { IfSome result (λ fit. fit.line ≡ line) }
 {
     for k in least..=most {
         if spells(word, k) {

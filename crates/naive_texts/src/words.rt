@@ -20,7 +20,7 @@ fn expect(category: usize, to_come: &mut [u8], depth: usize) -> usize
 
 // The parts of a line are to come, the first of them next.
 fn expect_parts(line: usize, to_come: &mut [u8], before: usize) -> usize
-    requires { (line < 27) × (before < 65000) }
+    requires { (line ≤ 27) × (before < 65000) }
     ensures { result ≤ before + 4 }
 {
     let mut depth = before;
@@ -32,7 +32,7 @@ fn expect_parts(line: usize, to_come: &mut [u8], before: usize) -> usize
 
 // Lists the node of a line behind n others. Where the line has none, its argument is that of the node before. Answers how many nodes are listed.
 fn list_node(line: usize, argument: usize, nodes: &mut [Listed], n: usize) -> usize
-    requires { (line < 27) × (n < 65536) }
+    requires { (line ≤ 27) × (n < 65536) }
     ensures { result ≤ n + 1 }
 {
     let argument = (argument % 256) as u8;
