@@ -1,4 +1,6 @@
 // The list of actions: a word an action, its number or its name. A word that is neither becomes 255, which is no action.
+ghost use Rattle.std.specs.Prelude.{◌≤◌, length, IfErr};
+
 use rule_files::{
     WrongWord, action_named, byte_at, following, front, is_doubled, is_name, name_at, refuse_word,
     say, say_bytes, say_naming, say_number, say_refusal, say_word, word_at, words_of,
@@ -28,7 +30,9 @@ fn action_of(word: &[u8], names: &[u8]) -> Option<u8> {
 }
 
 // Reads a list to the front of an area, as far as that has room, and answers it.
-pub(crate) fn read_list<'a>(line: &[u8], names: &[u8], list: &'a mut [u8]) -> &'a [u8] {
+pub(crate) fn read_list<'a>(line: &[u8], names: &[u8], list: &'a mut [u8]) -> &'a [u8]
+    ensures { length result.now ≤ length list.old }
+{
     let mut places = list.iter_mut();
     for word in words_of(line) {
         let Some(place) = places.next() else {
@@ -40,12 +44,14 @@ pub(crate) fn read_list<'a>(line: &[u8], names: &[u8], list: &'a mut [u8]) -> &'
 }
 
 // Reads a list of names, and answers how many there are. A word that is none, or stands there before, is refused.
-pub(crate) fn read_names(names: &[u8]) -> Result<usize, WrongWord<'_>> {
+pub(crate) fn read_names(names: &[u8]) -> Result<usize, WrongWord<'_>>
+    ensures { IfErr result (λ w. length w.word.now ≤ length names.now) }
+{
     for (behind, word) in words_of(names).enumerate() {
         let doubled = is_doubled(names, word, behind);
         if doubled || !is_name(word) {
             return Err(WrongWord {
-                word,
+                word: word_at(names, behind),
                 behind,
                 doubled,
             });
