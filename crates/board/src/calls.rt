@@ -12,16 +12,16 @@ use places::{AREA_LENGTH, Board, Case, write_place};
 use scan::admits;
 use trace::Mode;
 
-// An empty board and a zeroed area.
-pub fn new_board(board: &mut Board, area: &mut [u8]) -> Result<(), MakeError>
-    ensures { Makes area.old (made_reply result) board.new area.new }
+// An empty board and a zeroed area. The board is given also where the area is too short.
+pub fn new_board(area: &mut [u8]) -> (Board, Result<(), MakeError>)
+    ensures { Makes area.old (made_reply result.1) result.0 area.new }
 {
-    *board = Board::empty();
+    let board = Board::empty();
     if area.len() < AREA_LENGTH {
-        return Err(MakeError::ShortArea);
+        return (board, Err(MakeError::ShortArea));
     }
     area[..AREA_LENGTH].fill(0);
-    Ok(())
+    (board, Ok(()))
 }
 
 // The case that a table starts in, by its type.

@@ -34,8 +34,7 @@ pub fn lemondarts_new_board(bytes: &mut [u8], area: &mut [u8]) -> u64
     if bytes.len() < RECORD {
         return 14;
     }
-    let mut board = Board::empty();
-    let made = board::new_board(&mut board, area);
+    let (board, made) = board::new_board(area);
     write_back(bytes, board, made_answer(made))
 }
 

@@ -9,11 +9,11 @@ use Rattle.view.specs.Calls.{made, make-14}
 use Rattle.board.proofs.calls.new_board.Goals as goal
 
 pub returns-then-area-lt-AREA_LENGTH : goal.returns-then-area-lt-AREA_LENGTH
-returns-then-area-lt-AREA_LENGTH c = rw c.empty.ensures (make-14 (λ w. omega arith))
+returns-then-area-lt-AREA_LENGTH c = rw c.empty-board.ensures (make-14 (λ w. omega arith))
 
 pub returns : goal.returns
 returns c =
     let area = c.args.area.now in
     let filled : c.fill.new.self ≡ replicate (length (take area_length area)) 0 = search rules in
     let zeroed : c.fill.new.self ≡ replicate area_length 0 = filled ∙ ap (λ (n : ℕ). replicate n 0) (length-take-le area_length area (omega arith)) in
-    rw (c.empty.ensures, zeroed) (made (omega arith))
+    rw (c.empty-board.ensures, zeroed) (made (omega arith))
