@@ -1,5 +1,5 @@
 // Arguments and files.
-ghost use Rattle.std.specs.Prelude.{◌≡◌, ◌≤◌, length};
+ghost use Rattle.std.specs.Prelude.{◌≡◌, ◌≤◌, length, IfSome};
 
 use crate::told::warn;
 use catalogue::Message;
@@ -28,7 +28,8 @@ pub(crate) fn argument_count(rt: &HostRuntime) -> usize {
 
 // A word put at the front, and its length: 0 where it does not fit.
 fn put_word(word: &[u8], to: &mut [u8]) -> usize
-    ensures { result ≤ length to.old }
+    ensures bound { result ≤ length to.old }
+    ensures long { length to.new ≡ length to.old }
 {
     if word.len() > to.len() {
         return 0;
@@ -39,7 +40,8 @@ fn put_word(word: &[u8], to: &mut [u8]) -> usize
 
 // A word of the command by its number, put at the front, and its length: 0 where there is none or it does not fit.
 pub(crate) fn argument(rt: &HostRuntime, number: usize, to: &mut [u8]) -> usize
-    ensures { result ≤ length to.old }
+    ensures bound { result ≤ length to.old }
+    ensures long { length to.new ≡ length to.old }
 {
     match env::args(rt) {
         Ok(mut words) => match words.nth(number) {
@@ -51,7 +53,10 @@ pub(crate) fn argument(rt: &HostRuntime, number: usize, to: &mut [u8]) -> usize
 }
 
 // Reads until `to` is full, the input ends or a read fails, and answers how many bytes it put at the front; none where the first read fails.
-fn read_from(input: &mut impl Read, to: &mut [u8]) -> Option<usize> {
+fn read_from(input: &mut impl Read, to: &mut [u8]) -> Option<usize>
+    ensures bound { IfSome result (λ n. n ≤ length to.old) }
+    ensures long { length to.new ≡ length to.old }
+{
     let mut length = 0;
     while length < to.len() {
         match input.read(&mut to[length..]) {
