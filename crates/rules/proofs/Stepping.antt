@@ -2,14 +2,12 @@
 -- Assumes nothing.
 use mathlib.Core.Path.{◌≡◌, refl, sym, ◌∙◌}
 use mathlib.Core.Bool.{Bool, true, false}
-use Prim.Native.Nat.{ℕ, ◌+◌, ◌*◌, ◌<◌}
-use native.Mathlib.Decide.{ℕ_discrete}
-use native.Mathlib.Omega.{arith}
+use Prim.Native.Nat.{ℕ}
 use lib.Dec.{eqb}
-use borrow.Author.Tests.{eq-eqb, ne_eqb, eqb-true}
+use borrow.Author.Tests.{eq-eqb, eqb-true}
 use Rattle.trace.specs.Trace.{Move, trip, go}
-use Rattle.policy.specs.Rule.{same-r, both_r, either_r, copied-r, after-r, fulfilling-r}
-use Rattle.policy.specs.Value.{Part, marked, kept, missed, both_move, either_move, move_all, go_with}
+use Rattle.policy.specs.Rule.{same-r, either_r, copied-r}
+use Rattle.policy.specs.Value.{Part, either_move, move_all}
 use Rattle.rules.specs.Codes.{move_byte, byte_move}
 use Rattle.rules.specs.Steps.{encode_move, code_step_of}
 

@@ -24,7 +24,9 @@ impl PartRows<'_> {
         let mut rest = set;
         while rest != 0 {
             let row = rest.trailing_zeros() as usize;
-            let next = part_move(self.work, self.actions, i, row, action)?;
+            let Some(next) = part_move(self.work, self.actions, i, row, action) else {
+                return None;
+            };
             moved = with_row(moved, next);
             rest &= rest - 1;
         }

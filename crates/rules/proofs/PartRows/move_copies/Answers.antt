@@ -9,7 +9,7 @@ use Rattle.rules.specs.Rules.{part_at, move_of}
 use Rattle.rules.proofs.Moves.{row_below, begun, gone, tripped, ended}
 use Rattle.rules.proofs.Reading.{goes-below, index-fits}
 use Rattle.rules.proofs.PartRows.move_copies.Goals as goal
-use Rattle.rules.proofs.PartRows.move_copies.Goals.{In_ok-next, In_err-next, In-loop-rest}
+use Rattle.rules.proofs.PartRows.move_copies.Goals.{In-Some, In_default, In-loop-rest}
 
 -- in a turn: a row is left, the lowest is below 64, and the part moves from it
 module _ (c : In-loop-rest) where
@@ -24,11 +24,11 @@ module _ (c : In-loop-rest) where
       let a = c.args in
       part_at a.self.actions a.self.work.now a.i (count_trailing_zeros 64 c.loop-rest.rest) a.action
 
-trips : (c : In_err-next) → move (goal.at.In_err-next c).In-loop-rest ≡ trip
-trips c = let e = c.in_err-next.ensures in sym e
+trips : (c : In_default) → move (goal.at.In_default c).In-loop-rest ≡ trip
+trips c = let e = c.part_move.ensures in sym e ∙ ap move_of c.in_default.is
 
-goes : (c : In_ok-next) → move (goal.at.In_ok-next c).In-loop-rest ≡ go c.in_ok-next.next
-goes c = let e = c.in_ok-next.ensures in sym e
+goes : (c : In-Some) → move (goal.at.In-Some c).In-loop-rest ≡ go c.in-Some.next
+goes c = let e = c.part_move.ensures in sym e ∙ ap move_of c.in-Some.is
 
 pub loop-rest-init : goal.loop-rest-init
 loop-rest-init c = begun c.ranges.set.fits
@@ -51,16 +51,16 @@ loop-rest-smaller c =
 pub returns : goal.returns
 returns c = let e = ended c.loop-rest.invariant c.loop-rest-test.false in sym e
 
-pub returns-in_err-next : goal.returns-in_err-next
-returns-in_err-next c =
-    let turn = (goal.at.returns-in_err-next c).In-loop-rest in
-    let e = tripped turn.loop-rest.invariant (left turn) (trips (goal.at.returns-in_err-next c).In_err-next) in
-    ap move_of c.from_residual.ensures ∙ sym e
+pub returns-in_default : goal.returns-in_default
+returns-in_default c =
+    let turn = (goal.at.returns-in_default c).In-loop-rest in
+    let e = tripped turn.loop-rest.invariant (left turn) (trips (goal.at.returns-in_default c).In_default) in
+    sym e
 
 pub with_row-moved-requires : goal.with_row-moved-requires
-with_row-moved-requires c = goes-below c.requires.0 _ _ _ _ (goes (goal.at.with_row-moved-requires c).In_ok-next)
+with_row-moved-requires c = goes-below c.requires.0 _ _ _ _ (goes (goal.at.with_row-moved-requires c).In-Some)
 
 pub loop-rest-preserved : goal.loop-rest-preserved
 loop-rest-preserved c =
     let turn = (goal.at.loop-rest-preserved c).In-loop-rest in
-    rw c.with_row-moved.ensures (gone turn.loop-rest.invariant (left turn) (goes (goal.at.loop-rest-preserved c).In_ok-next))
+    rw c.with_row-moved.ensures (gone turn.loop-rest.invariant (left turn) (goes (goal.at.loop-rest-preserved c).In-Some))
