@@ -122,7 +122,7 @@ fn spells(word: &[u8], k: usize) -> bool
     requires { k < 100 }
 {
     match word {
-        [ones] => usize::from(*ones) == 48 + k,
+        [ones] => k < 10 && usize::from(*ones) == 48 + k,
         [tens, ones] => {
             9 < k && usize::from(*tens) == 48 + k / 10 && usize::from(*ones) == 48 + k % 10
         }
