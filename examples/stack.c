@@ -87,14 +87,6 @@ static size_t used(void (*call)(void)) {
     return sizeof stack - untouched;
 }
 
-/* Calls what the library calls of C, so that no call that is measured is the first to look for it. */
-static void look_up(void) {
-    volatile size_t none = 0;
-    memcpy(out, area, none);
-    memmove(out, out + 1, none);
-    memset(out, 0, none);
-}
-
 /* Measures a call, and gives whether it takes more than the header says, or answers otherwise than expected. */
 static int show(const char *name, void (*call)(void), size_t bare, size_t most, unsigned number) {
     size_t bytes = used(call) - bare;
@@ -157,7 +149,6 @@ static void make_text(const char *first, const char *again, unsigned times, cons
 int main(void) {
     size_t bare = used(nothing);
     int wrong = 0;
-    look_up();
     make_table();
     make_ands();
     make_text("enforce ", "always ", 62, "holds p0");

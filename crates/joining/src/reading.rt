@@ -5,7 +5,7 @@ ghost use Rattle.joining.specs.Tables.{FitBefore};
 ghost use Rattle.joining.specs.Reading.{FrontChecked, AllChecked, LaidOut};
 
 use crate::JoinError;
-use base::word;
+use base::{copy, word};
 use limits::SLOT_LENGTH;
 use trace::Mode;
 use well_formed::check_front;
@@ -42,7 +42,7 @@ fn lay(entries: &[u8], slot: &mut [u8])
     ensures { slot.new ≡ entries.now ++ replicate (length slot.old - length entries.now) 255 }
 {
     slot.fill(255);
-    slot[..entries.len()].copy_from_slice(entries);
+    copy(entries, slot);
 }
 
 // Lays the rows of each table into the slot of its number, while all have the number of actions of the first. Gives that number, or none where

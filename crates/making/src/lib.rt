@@ -6,6 +6,7 @@ ghost use Rattle.base.specs.Build.{Decides};
 ghost use Rattle.table.specs.Answer.{mode_number};
 ghost use Rattle.making.specs.Making.{table_bytes, Lengths};
 
+use base::copy;
 use limits::{NUMBERS_LENGTH, WORK_LENGTH};
 use table::{Header, mode_number};
 
@@ -33,6 +34,6 @@ pub fn write_table(header: Header, entries: &[u8], out: &mut [u8])
         8,
         0,
     ];
-    out[..8].copy_from_slice(&fields);
-    out[8..8 + entries.len()].copy_from_slice(entries);
+    copy(&fields, out);
+    copy(entries, &mut out[8..]);
 }

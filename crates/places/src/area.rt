@@ -3,6 +3,7 @@ ghost use Rattle.std.specs.Prelude.{◌≡◌, ◌≤◌, ◌<◌, length};
 ghost use Rattle.places.specs.Layout.{place_count, place_length, start_of, Within, place_bytes, with_bytes};
 
 use crate::PLACE_LENGTH;
+use base::copy;
 
 // Where the part of a place starts in the area.
 fn start_of(place: usize) -> usize
@@ -29,6 +30,6 @@ pub fn write_place(area: &mut [u8], place: usize, bytes: &[u8])
 {
     let from = start_of(place);
     let part = &mut area[from..from + PLACE_LENGTH];
-    part[..bytes.len()].copy_from_slice(bytes);
+    copy(bytes, part);
     part[bytes.len()..].fill(0);
 }
