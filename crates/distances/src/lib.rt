@@ -5,7 +5,7 @@ ghost use Rattle.std.specs.Prelude.{◌≡◌, true, ℕ, ◌+◌, ◌*◌, ◌�
 ghost use Rattle.distances.specs.Distances.{behind_entry, OneFurther, NotBelow, NotAbove, Distances, SameNumber};
 ghost use Rattle.automaton.specs.Partition.{SplitsTo};
 
-use automaton::Transitions;
+use signatures::Transitions;
 
 // The distance behind an action of a state, 0 for a trip.
 fn behind_action(machine: Transitions<'_>, far: &[u8], s: usize, a: usize) -> u8

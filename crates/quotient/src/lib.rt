@@ -4,8 +4,7 @@
 ghost use Rattle.std.specs.Prelude.{◌≡◌, ◌++◌, ◌*◌, drop};
 ghost use Rattle.automaton.specs.Quotient.{quotient_rows, Divisible};
 
-use automaton::Transitions;
-use signatures::class_of;
+use signatures::{Transitions, class_of};
 
 // Writes a row for each class: the classes behind its first member, 255 for a trip.
 pub fn quotient(

@@ -6,9 +6,9 @@ ghost use Rattle.automaton.specs.Machine.{Machine, AlikeStates};
 ghost use Rattle.refinement.specs.Refining.{BeginsWith};
 ghost use Rattle.automaton.specs.Partition.{SameSignature, SplitsTo, Refinable, RestrictedGrowth};
 
-use automaton::Transitions;
+use base::copy;
 use distances::{measure, split};
-use signatures::find_class;
+use signatures::{Transitions, find_class};
 
 // One pass: splits the states by their signatures under the classes so far. The number of classes, or none where there are more than the limit.
 fn pass(
@@ -76,7 +76,7 @@ pub fn refine(
     let mut count = begin(machine, limit, classes, other, firsts)?;
     loop {
         let finer = pass(machine, classes, other, firsts, limit)?;
-        classes.copy_from_slice(other);
+        copy(other, classes);
         if finer == count {
             return Some(count);
         }

@@ -1,10 +1,26 @@
-// Signatures of states: the class of a state and the classes behind its entries, and the search for a class by them.
+// Signatures of states: the class of a state and the classes behind its entries, and the search for a class by them; and a machine's list of next
+// states as one value.
 #![tactic(auto)]
 
-ghost use Rattle.std.specs.Prelude.{◌≡◌, ◌*◌, ◌<◌, length};
+ghost use Rattle.std.specs.Prelude.{◌≡◌, ◌+◌, ◌*◌, ◌<◌, length, get_or};
 ghost use Rattle.automaton.specs.Partition.{class_of, FindsClass, Searchable};
 
-use automaton::Transitions;
+// A machine as a flat list of next states, entry s * actions + a for action a in state s. An entry that is no state's number is a trip.
+#[derive(Clone, Copy)]
+pub struct Transitions<'a> {
+    pub next: &'a [u16],
+    pub actions: usize,
+}
+
+impl Transitions<'_> {
+    // Where an action leads from a state.
+    pub fn target(self, s: usize, a: usize) -> usize
+        requires { s * self.actions + a < length self.next.now }
+        ensures { result ≡ get_or self.entry.next.now (s * self.entry.actions + a) 0 }
+    {
+        usize::from(self.next[s * self.actions + a])
+    }
+}
 
 // The class of a state, 255 for what is no state: no Option, since the quotient's entries are these bytes (`quotient_entry`).
 pub fn class_of(classes: &[u8], s: usize) -> u8

@@ -1,10 +1,16 @@
 -- The goals of `refinement::refine` that the check leaves.
-use Rattle.std.proofs.Common.{◌≤◌, length, arith}
+use Rattle.std.proofs.Common.{◌≡◌, ◌≤◌, ℕ, List, ◌++◌, length, drop, arith}
+use mathlib.Core.List.{append-nil}
+use lib.ListN.{drop_of_length-le}
 use Rattle.automaton.specs.Partition.{SameSignature, Partition}
 use Rattle.refinement.specs.Refining.{Refining}
 use Rattle.refinement.proofs.Refining.{too_many, no-fewer-found, refines, stable}
 use Rattle.refinement.proofs.refine.Goals as goal
 use Rattle.refinement.proofs.refine.Goals.{At-loop-finer, In_ok-finer, Start}
+
+-- what is copied over a list as long as it
+copied : (from to : List ℕ) → length to ≡ length from → from ++ drop (length from) to ≡ from
+copied from to e = rw (drop_of_length-le to {i = length from} (omega arith), append-nil from)
 
 -- the classes so far are of all states
 module _ (c : At-loop-finer) where
@@ -31,7 +37,7 @@ module _ (c : In_ok-finer) where
 pub returns-then-finer-count : goal.returns-then-finer-count
 returns-then-finer-count c =
     let r = still-refining (goal.at.returns-then-finer-count c).At-loop-finer in
-    rw c.copy_from_slice.ensures.after
+    rw (c.copy.ensures, copied c.pass.new.finer c.loop-finer.classes (omega arith))
     (stable _ _ _ _ _ _ r _ _ _ (found (goal.at.returns-then-finer-count c).In_ok-finer) (omega arith) c.if-finer-count.true)
 
 pub loop-finer-smaller : goal.loop-finer-smaller
@@ -43,5 +49,5 @@ loop-finer-smaller c =
 pub loop-finer-preserved : goal.loop-finer-preserved
 loop-finer-preserved c =
     let r = still-refining (goal.at.loop-finer-preserved c).At-loop-finer in
-    rw (c.begin.auto.classes, c.copy_from_slice.ensures.after)
+    rw (c.begin.auto.classes, c.copy.ensures, copied c.pass.new.finer c.loop-finer.classes (omega arith))
     (refines _ _ _ _ _ _ r _ _ _ (found (goal.at.loop-finer-preserved c).In_ok-finer) (omega arith))
