@@ -1,4 +1,4 @@
--- A word that is a proposition, a number or neither; and a word compared with those of a table.
+-- A word that is a proposition, a number or neither; and two words compared.
 -- Assumes nothing.
 use Rattle.std.proofs.Common.{◌≡◌, refl, ◌∙◌, ℕ, ◌+◌, ◌-◌, ◌<◌, ◌≤◌, true, false, List, [], ◌∷◌, length, get_or, take, drop, eqb, drop-cons, add-one, arith}
 use mathlib.Core.Bool.{and-false}
@@ -9,7 +9,7 @@ use Rattle.grammar.specs.Words.{Word}
 use Rattle.grammar.specs.Spelling.{same, value_of, whether, token_in}
 use Rattle.grammar.specs.declared.Token.{Token}
 use Rattle.grammar.specs.declared.Token.TheVariants.{Proposition, Number, Other}
-use Rattle.lexer.specs.Tables.{numbered, no_row, Row, rows, up_to_15, up_to_60}
+use Rattle.lexer.specs.Tables.{numbered, up_to_15, up_to_60}
 
 -- The limits of the language's numbers.
 pub is_up_to_15 : (v : ℕ) → v ≤ 15 → up_to_15 v ≡ Proposition v
@@ -61,19 +61,3 @@ same_bytes (a ∷ v) (b ∷ w) = rw (same_bytes v w)
 pub no_p : (w : Word) → length w < 1 → get_or w 0 0 ≡ 112 → ⊥
 no_p [] l e = omega arith
 no_p (a ∷ w) l e = omega arith
-
--- The row of a table that a word is compared with: the word has its token, or one of the rows behind it.
-module _ (table : List Row) (k : ℕ) (w : Word) (others : Token) (h : k < length table) where
-  abbrev row : Row
-  row = get_or table k no_row
-
-  row-first : token_in (rows (drop k table)) w others ≡ whether (same w row.0.now) row.1 (token_in (rows (drop (k + 1) table)) w others)
-  row-first = rw (add-one, drop-cons table k no_row)
-
-  pub row-here : pointwise eqb w row.0.now ≡ true → token_in (rows (drop k table)) w others ≡ row.1
-  unfolding whether
-  row-here e = row-first ∙ rw (← same_bytes w row.0.now, e)
-
-  pub row-behind : pointwise eqb w row.0.now ≡ false → token_in (rows (drop k table)) w others ≡ token_in (rows (drop (k + 1) table)) w others
-  unfolding whether
-  row-behind e = row-first ∙ rw (← same_bytes w row.0.now, e)

@@ -1,23 +1,10 @@
--- What the code has of the language's words: a table of them, a number or none, and a word that is not in the table.
+-- What the code has of words that are not the language's own: a number or none, a proposition.
 -- Assumes nothing.
-use Rattle.std.specs.Prelude.{List, [], ◌∷◌, ℕ, Option, Some, None, ◌&&◌, leb, drop}
-use Rattle.std.specs.Borrow.{Bor}
+use Rattle.std.specs.Prelude.{ℕ, Option, Some, None, ◌&&◌, leb, drop}
 use Rattle.grammar.specs.Words.{Word}
-use Rattle.grammar.specs.Spelling.{Keyword, is_number, is_proposition, value_of, whether}
+use Rattle.grammar.specs.Spelling.{is_number, is_proposition, value_of, whether}
 use Rattle.grammar.specs.declared.Token.{Token}
-use Rattle.grammar.specs.declared.Token.TheVariants.{Watch, Proposition, Number, Other}
-
--- A word of a table, with its token.
-abbrev pub Row : Type 0
-Row = Bor (List ℕ) × Token
-
--- what stands behind a table
-abbrev pub no_row : Row
-no_row = (record { ref_ptr = (0, 0); now = [] }, Watch)
-
-abbrev pub rows : List Row → List Keyword
-rows [] = []
-rows (row ∷ rest) = record { letters = row.0.now; token = row.1 } ∷ rows rest
+use Rattle.grammar.specs.declared.Token.TheVariants.{Proposition, Number, Other}
 
 -- The number that a word says; 100 where it says none.
 abbrev pub value_or_none : Option ℕ → ℕ

@@ -1,35 +1,23 @@
 // Which of the language's words a word is.
 ghost use Rattle.std.specs.Prelude.{◌≡◌};
-ghost use Rattle.grammar.specs.Spelling.{token_in, token_of, value_of};
-ghost use Rattle.lexer.specs.Tables.{numbered, rows, up_to_15, up_to_60, value_or_none};
+ghost use Rattle.grammar.specs.Spelling.{token_of, value_of};
+ghost use Rattle.lexer.specs.Tables.{numbered, up_to_15, up_to_60, value_or_none};
 
 use grammar::Token;
-
-// The language's own words.
-static KEYWORDS: [(&[u8], Token); 16] = [
-    (b"watch", Token::Watch),
-    (b"enforce", Token::Enforce),
-    (b"now", Token::Now),
-    (b"holds", Token::Holds),
-    (b"count", Token::Count),
-    (b"not", Token::Not),
-    (b"and", Token::And),
-    (b"or", Token::Or),
-    (b"eventually", Token::Eventually),
-    (b"always", Token::Always),
-    (b"before", Token::Before),
-    (b"after", Token::After),
-    (b"fulfilling", Token::Fulfilling),
-    (b"ignoring", Token::Ignoring),
-    (b"true", Token::True),
-    (b"false", Token::False),
-];
 
 // Whether two words are the same.
 pub fn same(word: &[u8], other: &[u8]) -> bool
     ensures { result ≡ Rattle.grammar.specs.Spelling.same word.now other.now }
 {
-    word == other
+    if word.len() != other.len() {
+        return false;
+    }
+    for k in 0..word.len() {
+        if word[k] != other[k] {
+            return false;
+        }
+    }
+    true
 }
 
 // The number that one or two digits say, without leading zero.
@@ -75,21 +63,43 @@ fn numbered(word: &[u8]) -> Token
     }
 }
 
-// The token that a table has for a word, else what the others say.
-fn token_in(table: &[(&[u8], Token)], word: &[u8], others: Token) -> Token
-    ensures { result ≡ token_in (rows table.now) word.now others }
-{
-    for (letters, token) in table {
-        if word == *letters {
-            return *token;
-        }
-    }
-    others
-}
-
-// The token of a word.
+// The token of a word: one of the language's own, a proposition, a number or none of these.
 pub fn token_of(word: &[u8]) -> Token
     ensures { result ≡ token_of word.now }
 {
-    token_in(&KEYWORDS, word, numbered(word))
+    if same(word, b"watch") {
+        Token::Watch
+    } else if same(word, b"enforce") {
+        Token::Enforce
+    } else if same(word, b"now") {
+        Token::Now
+    } else if same(word, b"holds") {
+        Token::Holds
+    } else if same(word, b"count") {
+        Token::Count
+    } else if same(word, b"not") {
+        Token::Not
+    } else if same(word, b"and") {
+        Token::And
+    } else if same(word, b"or") {
+        Token::Or
+    } else if same(word, b"eventually") {
+        Token::Eventually
+    } else if same(word, b"always") {
+        Token::Always
+    } else if same(word, b"before") {
+        Token::Before
+    } else if same(word, b"after") {
+        Token::After
+    } else if same(word, b"fulfilling") {
+        Token::Fulfilling
+    } else if same(word, b"ignoring") {
+        Token::Ignoring
+    } else if same(word, b"true") {
+        Token::True
+    } else if same(word, b"false") {
+        Token::False
+    } else {
+        numbered(word)
+    }
 }
