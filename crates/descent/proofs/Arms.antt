@@ -5,7 +5,6 @@ use mathlib.Core.List.{List, [], ◌∷◌, ◌++◌}
 use Prim.Native.Nat.{ℕ, ◌+◌, ◌≤◌}
 use native.Mathlib.Omega.{arith}
 use lib.ListN.{length}
-use Rattle.std.proofs.Common.{Option, Some, None}
 use Rattle.syntax.specs.declared.Node.{Node}
 use Rattle.sheet_writer.specs.Bytes.{node_bytes}
 use Rattle.grammar.specs.Words.{Word}
@@ -24,19 +23,21 @@ use Rattle.descent.specs.Parsing.{unread, Parses, TookNumber, ParsesNumber, Pars
 use Rattle.parser_state.specs.Progress.Takes.{word as takes-word, nothing as takes-nothing}
 use Rattle.descent.specs.Parsing.TookNumber.{takes, sticks}
 use Rattle.parser_state.specs.declared.Taken.{Taken}
+use Rattle.parser_state.specs.declared.Taken.TheVariants.{Word as taken, Nothing as nothing-taken}
 use Rattle.parser_state.specs.declared.Progress.{Progress}
 use Rattle.parser_state.specs.declared.Progress.TheVariants.{Going, Stuck}
 use Rattle.descent.proofs.Parts.{stuck-here, stuck-still, sane-next, no_part, one-part, two-parts, number-part, three-parts}
 
 -- What a word that was taken says, and that none was.
-pub word-taken : {text : List ℕ} {p : Progress} {t : Option Taken} {taken : Taken} → Takes text p t → t ≡ Some taken
-    → Here text p taken.token (progress_of taken.rest)
-word-taken {text} {p} {taken = taken} (takes-word {taken = other} h) q =
-    let same : other ≡ taken = cc in
-    subst (λ (t : Taken). Here text p t.token (progress_of t.rest)) same h
+pub word-taken : {text : List ℕ} {p : Progress} {t : Taken} {token : Token} {behind : ℕ} → Takes text p t → t ≡ taken token behind
+    → Here text p token (progress_of behind)
+word-taken {text} {p} {token = token} {behind = behind} (takes-word {token = token'} {behind = behind'} h) q =
+    let same-token : token' ≡ token = cc in
+    let same-behind : behind' ≡ behind = cc in
+    subst (λ (n : ℕ). Here text p token (progress_of n)) same-behind (subst (λ (t : Token). Here text p t (progress_of behind')) same-token h)
 word-taken (takes-nothing x) q = absurd (let z : ◌≡◌ {A = ℕ} 0 1 = cc in omega arith)
 
-pub none-taken : {text : List ℕ} {p : Progress} {t : Option Taken} → Takes text p t → t ≡ None → Exhausted text p
+pub none-taken : {text : List ℕ} {p : Progress} {t : Taken} → Takes text p t → t ≡ nothing-taken → Exhausted text p
 none-taken (takes-word h) q = absurd (let z : ◌≡◌ {A = ℕ} 0 1 = cc in omega arith)
 none-taken (takes-nothing x) q = x
 

@@ -21,7 +21,7 @@ fn read_number(text: &[u8], p: u64) -> NumberRead
         progress: stuck(p, Category::Number),
         number: 0,
     };
-    let Some(Taken { token, rest }) = take_word(text, p) else {
+    let Taken::Word(token, rest) = take_word(text, p) else {
         return missing;
     };
     match token {
@@ -38,7 +38,7 @@ pub fn read_formula(text: &[u8], p: u64, out: &mut [u8; NODE_ROOM]) -> u64
     requires { CanRead text.now (progress_of p) out.old }
     ensures { Parses Formula text.now (progress_of p) out.old (progress_of result) out.new }
 {
-    let Some(Taken { token, rest }) = take_word(text, p) else {
+    let Taken::Word(token, rest) = take_word(text, p) else {
         return stuck(p, Category::Formula);
     };
     match token {
@@ -69,7 +69,7 @@ pub fn read_watched(text: &[u8], p: u64, out: &mut [u8; NODE_ROOM]) -> u64
     requires { CanRead text.now (progress_of p) out.old }
     ensures { Parses Watched text.now (progress_of p) out.old (progress_of result) out.new }
 {
-    let Some(Taken { token, rest }) = take_word(text, p) else {
+    let Taken::Word(token, rest) = take_word(text, p) else {
         return stuck(p, Category::Watched);
     };
     match token {
@@ -124,7 +124,7 @@ pub fn read_enforced(text: &[u8], p: u64, out: &mut [u8; NODE_ROOM]) -> u64
     requires { CanRead text.now (progress_of p) out.old }
     ensures { Parses Enforced text.now (progress_of p) out.old (progress_of result) out.new }
 {
-    let Some(Taken { token, rest }) = take_word(text, p) else {
+    let Taken::Word(token, rest) = take_word(text, p) else {
         return stuck(p, Category::Enforced);
     };
     match token {
@@ -182,8 +182,8 @@ fn ended(text: &[u8], p: u64) -> u64
     ensures { ParsesEnd text.now (progress_of p) (progress_of result) }
 {
     match take_word(text, p) {
-        Some(_) => stuck(p, Category::End),
-        None => p,
+        Taken::Word(..) => stuck(p, Category::End),
+        Taken::Nothing => p,
     }
 }
 
@@ -193,7 +193,7 @@ pub fn read_rule(text: &[u8], out: &mut [u8; NODE_ROOM]) -> u64
     ensures { ParsesText text.now out.new (progress_of result) × (length out.new ≡ node_room) }
 {
     let front = going(0, 0, 0);
-    let Some(Taken { token, rest }) = take_word(text, front) else {
+    let Taken::Word(token, rest) = take_word(text, front) else {
         return stuck(front, Category::Text);
     };
     match token {

@@ -1,6 +1,6 @@
 -- How far reading has come, and what taking a word and closing a node do to it.
 -- Assumes nothing.
-use Rattle.std.specs.Prelude.{◌≡◌, List, [], ◌∷◌, ℕ, ◌+◌, ◌-◌, ◌%◌, ◌≤◌, ◌<◌, Option, Some, None, length}
+use Rattle.std.specs.Prelude.{◌≡◌, List, [], ◌∷◌, ℕ, ◌+◌, ◌-◌, ◌%◌, ◌≤◌, ◌<◌, length}
 use Rattle.sheet_writer.specs.Bytes.{node_room}
 use Rattle.sheet_writer.specs.Writing.{WroteOne}
 use Rattle.grammar.specs.Words.{Word}
@@ -10,6 +10,7 @@ use Rattle.grammar.specs.declared.Token.{Token}
 use Rattle.lexer.specs.Next.{words_from}
 use Rattle.parser_state.specs.Packed.{progress_of}
 use Rattle.parser_state.specs.declared.Taken.{Taken}
+use Rattle.parser_state.specs.declared.Taken.TheVariants.{Word as found, Nothing as nothing_left}
 use Rattle.parser_state.specs.declared.Progress.{Progress}
 use Rattle.parser_state.specs.declared.Progress.TheVariants.{Going, Stuck}
 
@@ -72,9 +73,9 @@ Exhausted text (Going at words nodes) = words_from text at ≡ []
 Exhausted text (Stuck words expected) = Unit {0}
 
 -- What taking a word gives.
-pub data Takes (text : List ℕ) (p : Progress) : Option Taken → Type 0 where
-  word : {taken : Taken} → Here text p taken.token (progress_of taken.rest) → Takes text p (Some taken)
-  nothing : Exhausted text p → Takes text p None
+pub data Takes (text : List ℕ) (p : Progress) : Taken → Type 0 where
+  word : {token : Token} {behind : ℕ} → Here text p token (progress_of behind) → Takes text p (found token behind)
+  nothing : Exhausted text p → Takes text p nothing_left
 
 -- A node of these bytes is added where reading goes on.
 abbrev pub Closes : List ℕ → List ℕ → List ℕ → Progress → Progress → Type 0

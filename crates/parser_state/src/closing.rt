@@ -31,7 +31,7 @@ fn close(p: u64, kind: Kind, argument: u8, a: u8, b: u8, c: u8, out: &mut [u8; N
         return p;
     };
     let fields = Fields {
-        kind,
+        kind: u8::from(kind),
         argument,
         a,
         b,

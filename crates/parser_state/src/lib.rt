@@ -27,9 +27,10 @@ pub enum Progress {
     },
 }
 
-// A word that was taken, and the progress after it.
+// The word that comes next, with the progress after it; or there is none, or reading is stuck already. It is no `Option` of a struct: that takes 24
+// bytes in place of 16, in the frame of each reader, and the deepest text takes some 27 KiB of stack (include/lemondarts.h).
 #[derive(Clone, Copy)]
-pub struct Taken {
-    pub token: Token,
-    pub rest: u64,
+pub enum Taken {
+    Word(Token, u64),
+    Nothing,
 }

@@ -87,17 +87,16 @@ pub fn stuck(p: u64, expected: Category) -> u64
     base::pack(0, words, 0, mark(expected))
 }
 
-// Takes the next word; there is none where no word is left, or where reading is stuck already.
-pub fn take_word(text: &[u8], p: u64) -> Option<Taken>
+// Takes the next word.
+pub fn take_word(text: &[u8], p: u64) -> Taken
     requires { Sane text.now (progress_of p) }
     ensures { Takes text.now (progress_of p) result }
 {
     let Progress::Going { at, words, nodes } = unpack(p) else {
-        return None;
+        return Taken::Nothing;
     };
-    let word = read_word(text, at)?;
-    Some(Taken {
-        token: word.token,
-        rest: going(word.end, words + 1, nodes),
-    })
+    match read_word(text, at) {
+        Some(word) => Taken::Word(word.token, going(word.end, words + 1, nodes)),
+        None => Taken::Nothing,
+    }
 }

@@ -32,4 +32,4 @@ abbrev pub FiveFields : Type 0
 FiveFields = ℕ × ℕ × ℕ × ℕ × ℕ
 
 abbrev pub five_fields : Fields → FiveFields
-five_fields fields = (kind_number fields.kind, fields.argument, fields.a, fields.b, fields.c)
+five_fields fields = (fields.kind, fields.argument, fields.a, fields.b, fields.c)

@@ -39,10 +39,10 @@ pub enum Kind {
     Ignoring = 23,
 }
 
-// The five fields of a node: its kind, its argument, and the numbers of its parts. Those that its kind does not use are 0.
+// The five fields of a node: the number of its kind, its argument, and the numbers of its parts. Those that its kind does not use are 0.
 #[derive(Clone, Copy)]
 pub struct Fields {
-    pub kind: Kind,
+    pub kind: u8,
     pub argument: u8,
     pub a: u8,
     pub b: u8,

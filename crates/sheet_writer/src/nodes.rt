@@ -11,7 +11,7 @@ impl Fields {
     fn bytes(self) -> [u8; 5]
         ensures { result ≡ five_bytes (five_fields self) }
     {
-        [u8::from(self.kind), self.argument, self.a, self.b, self.c]
+        [self.kind, self.argument, self.a, self.b, self.c]
     }
 }
 

@@ -10,9 +10,9 @@ returns-in_default c =
 
 pub returns-in-Number : goal.returns-in-Number
 returns-in-Number c =
-    number-here (word-taken c.take_word.ensures c.in-Some.is) c.in-Number.is
+    number-here (word-taken c.take_word.ensures c.in-Word.is) c.in-Number.is
 
 pub returns-in_default-token : goal.returns-in_default-token
 returns-in_default-token c =
-    let h = word-taken c.take_word.ensures c.in-Some.is in
+    let h = word-taken c.take_word.ensures c.in-Word.is in
     number-stuck h (left-over h Number c.in_default-token.not-Number) c.stuck.ensures

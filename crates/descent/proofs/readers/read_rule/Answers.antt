@@ -22,15 +22,15 @@ returns-in_default c = (
 
 pub read_watched-requires : goal.read_watched-requires
 read_watched-requires c =
-    record { sane = sane-behind (word-taken c.take_word.ensures c.in-Some.is); sixty-four = c.requires.1 }
+    record { sane = sane-behind (word-taken c.take_word.ensures c.in-Word.is); sixty-four = c.requires.1 }
 
 pub read_enforced-requires : goal.read_enforced-requires
 read_enforced-requires c =
-    record { sane = sane-behind (word-taken c.take_word.ensures c.in-Some.is); sixty-four = c.requires.1 }
+    record { sane = sane-behind (word-taken c.take_word.ensures c.in-Word.is); sixty-four = c.requires.1 }
 
 pub returns-in-Watch : goal.returns-in-Watch
 returns-in-Watch c =
-    let h = word-taken c.take_word.ensures c.in-Some.is in (
+    let h = word-taken c.take_word.ensures c.in-Word.is in (
       whole-text c.going-front.ensures h (λ (p : Policy). record { mode = watched; policy = p }) (spelled h c.in-Watch.is) fit.watch (λ ws x r. read.watch r) (λ x. refl)
           c.read_watched.ensures c.ended.ensures,
       c.read_watched.ensures.sized ∙ c.requires.1,
@@ -38,7 +38,7 @@ returns-in-Watch c =
 
 pub returns-in-Enforce : goal.returns-in-Enforce
 returns-in-Enforce c =
-    let h = word-taken c.take_word.ensures c.in-Some.is in (
+    let h = word-taken c.take_word.ensures c.in-Word.is in (
       whole-text c.going-front.ensures h (λ (p : Policy). record { mode = enforced; policy = p }) (spelled h c.in-Enforce.is) fit.enforce (λ ws x r. read.enforce r) (λ x. refl)
           c.read_enforced.ensures c.ended-in-Enforce.ensures,
       c.read_enforced.ensures.sized ∙ c.requires.1,
@@ -46,5 +46,5 @@ returns-in-Enforce c =
 
 pub returns-in_default-token : goal.returns-in_default-token
 returns-in_default-token c =
-    let h = word-taken c.take_word.ensures c.in-Some.is in
+    let h = word-taken c.take_word.ensures c.in-Word.is in
     (misfit-at-all c.going-front.ensures h (left-over h Text (c.in_default-token.not-Watch, c.in_default-token.not-Enforce)) c.stuck-in_default-token.ensures, c.requires.1)

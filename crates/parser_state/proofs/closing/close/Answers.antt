@@ -18,4 +18,4 @@ pub returns : goal.returns
 returns c =
     let u = c in
     let e = sym u.unpack.ensures ∙ c.in-Going.is in
-    closes-going _ _ _ e (counted-on u.args.p e (omega (arith, u.requires.few-nodes, ap nodes_in e))) c.add_node.ensures
+    closes-going _ _ _ e (counted-on u.args.p e (omega (arith, u.requires.few-nodes, ap nodes_in e))) (rw c.from.ensures at c.add_node.ensures)
