@@ -9,6 +9,7 @@ ghost use Rattle.std.specs.Prelude.{◌≤◌, length};
 ghost use Rattle.limits.specs.Lengths.{work_length};
 
 pub use parts::part_move;
+pub use steps::start;
 
 // A node's rule over the numbers of its parts. A set of 16 bits says which actions satisfy a formula.
 #[derive(Clone, Copy)]

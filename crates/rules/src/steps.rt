@@ -57,18 +57,18 @@ fn count_step(k: u8, value: u64, action: usize) -> Option<u64>
     }
 }
 
-impl PartRows<'_> {
-    // The value before any action.
-    pub fn start(self, rule: NodeRule) -> u64
-        ensures { result ≡ code_start self.entry.actions self.entry.work.now rule }
-    {
-        match rule {
-            NodeRule::Copied(_) => 1,
-            NodeRule::Fulfilling(k, ..) => { if k == 0 { MISSED } else { 0 } }
-            _ => 0,
-        }
+// The value before any action.
+pub fn start(rule: NodeRule, work: &[u8], actions: usize) -> u64
+    ensures { result ≡ code_start actions work.now rule }
+{
+    match rule {
+        NodeRule::Copied(_) => 1,
+        NodeRule::Fulfilling(k, ..) => { if k == 0 { MISSED } else { 0 } }
+        _ => 0,
     }
+}
 
+impl PartRows<'_> {
     // Where an action leads from a row that a byte names: to a row below 64, or a trip.
     fn row_move(self, i: u8, row: u64, action: usize) -> Option<u64>
         requires { Readable self.work.now i × (action < self.actions) × (row < byte_up) }

@@ -1,4 +1,4 @@
--- `rules::PartRows::start` meets its contract: a copy begins at row 0, a wait of no actions is over, and every other value is 0.
+-- `rules::steps::start` meets its contract: a copy begins at row 0, a wait of no actions is over, and every other value is 0.
 use mathlib.Core.Path.{◌≡◌, refl}
 use mathlib.Core.List.{List}
 use Prim.Native.Nat.{ℕ}
@@ -7,7 +7,7 @@ use native.Mathlib.Omega.{arith}
 use Rattle.rules.specs.declared.NodeRule.{NodeRule}
 use Rattle.rules.specs.declared.NodeRule.TheVariants.{Opening, Count, Same, Both, Either, Copied, Before, After, Fulfilling, Ignoring}
 use Rattle.rules.specs.Steps.{code_start}
-use Rattle.rules.proofs.PartRows.start.Goals as goal
+use Rattle.rules.proofs.steps.start.Goals as goal
 
 module _ (actions : ℕ) (work : List ℕ) where
   over : (rule : NodeRule) (k a b c : ℕ) → rule ≡ Fulfilling k a b c → k ≡ 0 → 131072 ≡ code_start actions work rule
@@ -34,12 +34,12 @@ returns-in-Copied c = rw c.in-Copied.is
 pub returns-then-k-eq0 : goal.returns-then-k-eq0
 returns-then-k-eq0 c =
     let a = c.args in
-    over a.self.actions a.self.work.now a.rule _ _ _ _ c.in-Fulfilling.is c.if-k-eq0.true
+    over a.actions a.work.now a.rule _ _ _ _ c.in-Fulfilling.is c.if-k-eq0.true
 
 pub returns-else-k-eq0 : goal.returns-else-k-eq0
 returns-else-k-eq0 c =
     let a = c.args in
-    waits a.self.actions a.self.work.now a.rule _ _ _ _ c.in-Fulfilling.is c.if-k-eq0.false
+    waits a.actions a.work.now a.rule _ _ _ _ c.in-Fulfilling.is c.if-k-eq0.false
 
 pub returns-in_default : goal.returns-in_default
-returns-in_default c = let a = c.args in others a.self.actions a.self.work.now a.rule c.in_default.not-Copied c.in_default.not-Fulfilling
+returns-in_default c = let a = c.args in others a.actions a.work.now a.rule c.in_default.not-Copied c.in_default.not-Fulfilling
