@@ -20,13 +20,13 @@ fn answer_rule_file(rt: &impl Print, line: &[u8], file: &[u8]) {
         return;
     }
     let mut sets = [0u16; 16];
-    let Some(actions) = read_head(rt, file, &mut sets) else {
+    let Some(count) = read_head(rt, file, &mut sets) else {
         return;
     };
     let names = first_line(file);
     let mut room: [u8; MOST_WORDS] = base::room(0);
     let list = read_list(line, names, &mut room);
-    answer_rules(rt, file, actions, line, list, names);
+    answer_rules(rt, file, &sets[..count], line, list, names);
 }
 
 // Whether so many names, not none, are given for a sheet with another number of actions. Of a sheet without 1 to 16 actions nothing is said.

@@ -1,19 +1,21 @@
 // The list of actions: a word an action, its number or its name. A word that is neither becomes 255, which is no action.
 ghost use Rattle.std.specs.Prelude.{◌≤◌, length, IfErr};
+ghost use Rattle.rule_files.specs.Standing.{IsWordIn};
 
 use rule_files::{
-    WrongWord, action_named, byte_at, following, front, is_doubled, is_name, name_at, refuse_word,
-    say, say_bytes, say_naming, say_number, say_refusal, say_word, word_at, words_of,
+    WrongWord, action_named, byte_at, digit, following, front, is_doubled, is_name, name_at,
+    refuse_word, say, say_bytes, say_naming, say_number, say_refusal, say_word, word_at, words_of,
 };
 
 // The number up to 255 that a word of digits is.
 fn number_of(word: &[u8]) -> Option<u8> {
     let mut number = 0u8;
     for byte in word {
-        if !byte.is_ascii_digit() {
+        let next = digit(*byte);
+        if 9 < next {
             return None;
         }
-        number = number.checked_mul(10)?.checked_add(*byte - b'0')?;
+        number = number.checked_mul(10)?.checked_add(next)?;
     }
     Some(number)
 }
@@ -44,14 +46,15 @@ pub(crate) fn read_list<'a>(line: &[u8], names: &[u8], list: &'a mut [u8]) -> &'
 }
 
 // Reads a list of names, and answers how many there are. A word that is none, or stands there before, is refused.
+#[tactic(auto, using(rule_files::proofs::Standing::all_left, rule_files::proofs::Standing::word_left, rule_files::proofs::Standing::rest_left))]
 pub(crate) fn read_names(names: &[u8]) -> Result<usize, WrongWord<'_>>
-    ensures { IfErr result (λ w. length w.word.now ≤ length names.now) }
+    ensures { IfErr result (λ w. IsWordIn names.now w.word.now) }
 {
     for (behind, word) in words_of(names).enumerate() {
         let doubled = is_doubled(names, word, behind);
         if doubled || !is_name(word) {
             return Err(WrongWord {
-                word: word_at(names, behind),
+                word,
                 behind,
                 doubled,
             });

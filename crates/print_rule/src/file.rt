@@ -46,7 +46,7 @@ pub(crate) fn answer(rt: &(impl Print + Eprint), file: &[u8]) {
         return;
     }
     let mut sets = [0u16; 16];
-    if let Some(actions) = read_head(rt, file, &mut sets) {
-        answer_rules(rt, file, actions);
+    if let Some(count) = read_head(rt, file, &mut sets) {
+        answer_rules(rt, file, &sets[..count]);
     }
 }

@@ -53,7 +53,7 @@ fn answer_sheet(
     out: &mut [u8],
 ) -> Option<usize>
     requires { TABLE_ROOM ≤ length out.old }
-    ensures { IfSome result (λ n. n ≤ TABLE_ROOM) }
+    ensures { IfSome result (λ n. (8 ≤ n) × (n ≤ TABLE_ROOM)) }
 {
     let mut work: [u8; 65536] = base::room(0);
     let mut values: [u64; 1024] = base::room(0);
@@ -88,7 +88,7 @@ pub(crate) fn answer_text(
     out: &mut [u8],
 ) -> Option<usize>
     requires { TABLE_ROOM ≤ length out.old }
-    ensures { IfSome result (λ n. n ≤ TABLE_ROOM) }
+    ensures { IfSome result (λ n. (8 ≤ n) × (n ≤ TABLE_ROOM)) }
 {
     let mut room: [u8; 362] = base::room(0);
     let sheet = read_rule(rt, rule, actions, list, &mut room)?;

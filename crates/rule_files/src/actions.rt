@@ -1,6 +1,7 @@
 // The action list: a word an action, the propositions that hold of it joined by `+`, or `-` where none does. The action's name may stand before them,
 // joined by `=`.
-ghost use Rattle.std.specs.Prelude.{◌≤◌, ◌<◌, length, IfSome, IfErr};
+ghost use Rattle.std.specs.Prelude.{◌≡◌, ◌≤◌, ◌<◌, true, length, IfSome, IfErr};
+ghost use Rattle.rule_files.specs.Standing.{StandsIn, IsWordIn};
 
 use crate::words::{find, is_plain, word_at, words_of};
 use grammar::Token;
@@ -34,7 +35,9 @@ fn read_set(word: &[u8]) -> Option<u16> {
 }
 
 // Whether a word is a name: small letters and digits, a letter first, and no `p` with a digit behind it, as propositions begin.
-pub fn is_name(word: &[u8]) -> bool {
+pub fn is_name(word: &[u8]) -> bool
+    ensures { result ≡ true → 0 < length word.now }
+{
     match word {
         [] | [b'0'..=b'9', ..] | [b'p', b'0'..=b'9', ..] => false,
         _ => is_plain(word),
@@ -54,8 +57,9 @@ fn read_action(word: &[u8]) -> Option<u16> {
 }
 
 // What stands before the `=` of a word, all of it where there is none.
+#[tactic(auto, using(crate::proofs::Standing::front_stands))]
 fn name_of(word: &[u8]) -> &[u8]
-    ensures { length result.now ≤ length word.now }
+    ensures { StandsIn word.now result.now }
 {
     &word[..find(word, 0, b'=')]
 }
@@ -70,8 +74,9 @@ pub fn action_named(list: &[u8], name: &[u8]) -> Option<usize>
 }
 
 // The name of an action of a list, if it has one.
+#[tactic(auto, using(crate::proofs::Standing::part_within))]
 pub fn name_at(list: &[u8], number: usize) -> Option<&[u8]>
-    ensures { IfSome result (λ n. length n.now ≤ length list.now) }
+    ensures { IfSome result (λ n. IsWordIn list.now n.now) }
 {
     let name = name_of(word_at(list, number));
     if is_name(name) { Some(name) } else { None }
@@ -90,9 +95,10 @@ fn keep(sets: &mut [u16], number: usize, set: u16) {
     }
 }
 
+#[tactic(auto, using(crate::proofs::Standing::all_left, crate::proofs::Standing::word_left, crate::proofs::Standing::rest_left))]
 // Reads a list, keeps the sets of the actions that there is room for, and answers how many actions there are.
 pub fn read_actions<'a>(list: &'a [u8], sets: &mut [u16]) -> Result<usize, WrongWord<'a>>
-    ensures { IfErr result (λ w. length w.word.now ≤ length list.now) }
+    ensures { IfErr result (λ w. IsWordIn list.now w.word.now) }
 {
     for (behind, word) in words_of(list).enumerate() {
         let set = read_action(word);
@@ -100,7 +106,7 @@ pub fn read_actions<'a>(list: &'a [u8], sets: &mut [u16]) -> Result<usize, Wrong
         match set {
             Some(set) if !doubled => keep(sets, behind, set),
             _ => return Err(WrongWord {
-                word: word_at(list, behind),
+                word,
                 behind,
                 doubled,
             }),

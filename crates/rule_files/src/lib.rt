@@ -25,4 +25,6 @@ pub use refusals::{
 };
 pub use rooms::front;
 pub use sizes::tell_size;
-pub use words::{Span, find, first_line, pass_blanks, word_at, word_behind, word_end, words_of};
+pub use words::{
+    Span, digit, find, first_line, pass_blanks, word_at, word_behind, word_end, words_of,
+};

@@ -1,5 +1,5 @@
 // The rules of a file: they are separated by lines that have the one word `---`.
-ghost use Rattle.std.specs.Prelude.{◌<◌, ◌≤◌, length};
+ghost use Rattle.std.specs.Prelude.{◌≡◌, ◌-◌, ◌<◌, ◌≤◌, length, take, drop};
 
 use crate::words::{Span, find, newlines, pass_blanks, word_behind};
 
@@ -62,10 +62,11 @@ fn line_of(file: &[u8], at: usize) -> usize
     1 + newlines(file, at)
 }
 
-// The rule of this number that begins here.
+// The rule of this number that begins here; its text is all up to where it ends.
 pub fn part_from<'a>(file: &'a [u8], from: usize, number: usize) -> Part<'a>
     requires { (from ≤ length file.now) × (length file.now ≤ 65535) }
-    ensures { (from ≤ result.to) × (result.to ≤ length file.now) }
+    ensures within { (from ≤ result.to) × (result.to ≤ length file.now) }
+    ensures text { result.rule.text.now ≡ take (result.to - from) (drop from file.now) }
 {
     let to = rule_end(file, from);
     let last = to == file.len();

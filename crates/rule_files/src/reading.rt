@@ -12,7 +12,7 @@ fn refuse_text(rt: &impl Print, error: TextError, rule: RuleText<'_>, list: &[u8
         TextError::Actions => say_refusal(rt, 2, 0),
         TextError::LongText => {
             say_refusal(rt, 31, 0);
-            tell_long(rt, rule);
+            tell_long(rt, rule.text.len(), rule.place);
         }
         TextError::Unreadable(words, expected) => {
             say_refusal(rt, 32, words);

@@ -1,5 +1,6 @@
 // What a refusal of the file or of the text means, and what to do.
-ghost use Rattle.std.specs.Prelude.{◌≤◌, length};
+ghost use Rattle.std.specs.Prelude.{◌≤◌, IfSome};
+ghost use Rattle.rule_files.specs.Standing.{StandsIn};
 
 use crate::actions::{WrongWord, action_named, is_name};
 use crate::output::{say, say_number, say_refusal, say_word};
@@ -133,10 +134,10 @@ pub fn tell_watched(rt: &impl Print, watched: Place, advice: &[u8]) {
 }
 
 // 31.
-pub fn tell_long(rt: &impl Print, rule: RuleText<'_>) {
-    say_rule(rt, rule.place.rule, b": ");
+pub fn tell_long(rt: &impl Print, length: usize, place: Place) {
+    say_rule(rt, place.rule, b": ");
     say(rt, b"the rule has ");
-    say_number(rt, rule.text.len());
+    say_number(rt, length);
     say(
         rt,
         b" bytes, and 1024 are the most: shorten it, or split it into rules on several places\n",
@@ -178,7 +179,9 @@ pub fn say_place(rt: &impl Print, rule: RuleText<'_>, words: usize) {
 }
 
 // The word of a list that a name names an action by.
-fn named_word<'a>(list: &'a [u8], name: &[u8]) -> Option<&'a [u8]> {
+fn named_word<'a>(list: &'a [u8], name: &[u8]) -> Option<&'a [u8]>
+    ensures { IfSome result (λ w. StandsIn list.now w.now) }
+{
     if !is_name(name) {
         return None;
     }

@@ -1,6 +1,7 @@
 // Words: what stands between blanks and newlines.
-ghost use Rattle.std.specs.Prelude.{◌≤◌, length};
+ghost use Rattle.std.specs.Prelude.{◌≡◌, ◌≤◌, length, take, IfSome};
 ghost use Rattle.std.specs.Iterator.{at_most};
+ghost use Rattle.rule_files.specs.Standing.{StandsIn, WordThen};
 
 // Where a word stands in a text. It is empty where there is no such word.
 #[derive(Clone, Copy)]
@@ -53,7 +54,7 @@ pub fn find(bytes: &[u8], from: usize, byte: u8) -> usize
 
 // The first line of a text, without its newline.
 pub fn first_line(text: &[u8]) -> &[u8]
-    ensures { length result.now ≤ length text.now }
+    ensures { (length result.now ≤ length text.now) × (result.now ≡ take (length result.now) text.now) }
 {
     &text[..find(text, 0, b'\n')]
 }
@@ -74,8 +75,9 @@ pub fn word_behind(text: &[u8], n: usize) -> Span
 }
 
 // The word after the first n; empty where there is none.
+#[tactic(auto, using(crate::proofs::Standing::part_stands))]
 pub fn word_at(text: &[u8], n: usize) -> &[u8]
-    ensures { length result.now ≤ length text.now }
+    ensures { StandsIn text.now result.now }
 {
     let Span { from, to } = word_behind(text, n);
     &text[from..to]
@@ -89,6 +91,8 @@ pub struct TextWords<'a> {
 
 impl<'a> Iterator for TextWords<'a> {
     type Item = &'a [u8];
+
+    ghost next_gives = { λ s r t. IfSome r (λ w. WordThen s.rest.now w.now t.rest.now) };
 
     ghost remaining = { λ s. at_most (length s.rest.now) };
 
@@ -105,7 +109,9 @@ impl<'a> Iterator for TextWords<'a> {
 }
 
 // The words of a text.
-pub fn words_of(text: &[u8]) -> TextWords<'_> {
+pub fn words_of(text: &[u8]) -> TextWords<'_>
+    ensures { result.rest.now ≡ text.now }
+{
     TextWords { rest: text }
 }
 
@@ -115,6 +121,16 @@ pub fn newlines(text: &[u8], to: usize) -> usize
     ensures { result ≤ to }
 {
     text[..to].iter().filter(|byte| **byte == b'\n').count()
+}
+
+// The digit that a byte is; 100 where it is none.
+pub fn digit(byte: u8) -> u8
+    ensures { result ≤ 100 }
+{
+    match byte {
+        b'0'..=b'9' => byte - b'0',
+        _ => 100,
+    }
 }
 
 // Whether a word is of small letters and digits alone.

@@ -1,3 +1,6 @@
 -- A count within a buffer is the length of that much of it.
 use Rattle.std.proofs.Common.{ℕ, ◌≤◌, List, length, sym, length-take-le}
 use Rattle.standard_streams.specs.Counts.{IsPrefixLen}
+
+pub prefix_len_of_le : (n : ℕ) (xs : List ℕ) → n ≤ length xs → IsPrefixLen n xs
+prefix_len_of_le n xs h = (h, sym (length-take-le n xs h))

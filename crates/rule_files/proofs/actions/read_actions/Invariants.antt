@@ -1,0 +1,9 @@
+-- `rule_files::actions::read_actions` meets its contract. The loop's invariant: the words that are not read yet are those of what is left of the list.
+use Rattle.rule_files.specs.Standing.{EndsWith}
+use Rattle.rule_files.proofs.actions.read_actions.Given as goal
+
+abbrev pub invariant-loop-behind : goal.invariant-loop-behind
+invariant-loop-behind l =
+    goal.iterator-loop-behind.can_next l.behind-iterator
+    × goal.iterator-loop-behind.is_finite l.behind-iterator
+    × EndsWith l.list l.behind-iterator.iter.rest.now

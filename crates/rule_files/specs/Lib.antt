@@ -1,0 +1,3 @@
+-- What the contracts of rule files cite.
+-- Assumes nothing.
+pub mod Standing
