@@ -53,21 +53,18 @@ fn as_expected(answer: u64, board: &[u8], expected: &[u8]) -> bool {
 
 // Reads the rest of a record, behind its name, makes the call and compares. Nothing where it was cut off.
 fn run_call(
-    rt: &(impl Input + Print),
-    name: &[u8],
+    rt: &impl Input,
     board: &mut [u8],
     area: &mut [u8],
     counts: &mut [u64],
-) -> Option<()> {
+) -> Option<bool> {
     let mut call_room = room::<u8, 1100>(0);
     let mut expected_room = room::<u8, 64>(0);
-    let stated = corpus::read_block(rt, &mut call_room)?;
-    let expected = corpus::read_block(rt, &mut expected_room)?;
+    let stated = corpus::read_block(rt, &mut call_room).ok()?;
+    let expected = corpus::read_block(rt, &mut expected_room).ok()?;
     let answer = call(stated, board, area);
     corpus::add(counts, (answer % 65536) as usize, 1);
-    let agreed = as_expected(answer, board, expected);
-    corpus::settle(rt, counts, DISAGREEMENTS, agreed, name);
-    Some(())
+    Some(as_expected(answer, board, expected))
 }
 
 // The bytes of the board and of its area are not zero before the first call: a new board has to zero them.
@@ -76,7 +73,8 @@ fn main(rt: HostRuntime) {
     let mut area = room::<u8, 8256>(7);
     let mut counts = room::<u64, 257>(0);
     let at = corpus::run(&rt, &mut counts, |name, counts| {
-        run_call(&rt, name, &mut board, &mut area, counts)
+        let agreed = run_call(&rt, &mut board, &mut area, counts);
+        corpus::settle(&rt, counts, DISAGREEMENTS, agreed, name)
     });
     corpus::report(&rt, b"calls ", at, &counts[..256], counts[256]);
 }

@@ -3,7 +3,7 @@
 #![tactic(auto)]
 
 use base::room;
-use corpus::FRESH;
+use corpus::{FRESH, Progress};
 use standard_streams::{print_decimal, write_all};
 
 // Slots of the counts: answers by number from 0 (a table), nodes by kind, sequences judged, and sheets on which the two disagree.
@@ -40,7 +40,7 @@ fn count_nodes(sheet: &[u8], nodes: usize, nodes_at: usize, counts: &mut [u64]) 
 // Whether the table gives the policy's verdict after every sequence that is judged.
 fn same_verdicts(sheet: &[u8], judged: &naive::Sheet, table: &[u8], counts: &mut [u64]) -> bool {
     count_nodes(sheet, judged.areas.nodes, judged.areas.nodes_at, counts);
-    let compared = naive::compare(sheet, judged, table);
+    let compared = naive::compare(sheet, judged.mode.number(), table);
     corpus::add(counts, SEQUENCES, compared.sequences as u64);
     compared.differing == 0
 }
@@ -78,35 +78,37 @@ fn agrees(short: usize, sheet: &[u8], expected: &[u8], counts: &mut [u64]) -> bo
 }
 
 // Reads the rest of a record, behind its name, and compares. Nothing where it was cut off.
-fn run_sheet(rt: &(impl Input + Print), name: &[u8], counts: &mut [u64]) -> Option<()> {
+fn run_sheet(rt: &impl Input, counts: &mut [u64]) -> Option<bool> {
     let mut call_room = room::<u8, 64>(0);
     let mut sheet_room = room::<u8, 65536>(0);
     let mut expected_room = room::<u8, 1100>(0);
-    let lent = corpus::read_block(rt, &mut call_room)?;
-    let sheet = corpus::read_block(rt, &mut sheet_room)?;
-    let expected = corpus::read_block(rt, &mut expected_room)?;
-    let agreed = agrees(corpus::at(lent, 0), sheet, expected, counts);
-    corpus::settle(rt, counts, DISAGREEMENTS, agreed, name);
-    Some(())
+    let lent = corpus::read_block(rt, &mut call_room).ok()?;
+    let sheet = corpus::read_block(rt, &mut sheet_room).ok()?;
+    let expected = corpus::read_block(rt, &mut expected_room).ok()?;
+    Some(agrees(corpus::at(lent, 0), sheet, expected, counts))
+}
+
+// Writes how many sheets were compiled, and the counts, as much of it as the corpus had.
+fn report(rt: &(impl Input + Print), at: Progress, counts: &[u64; 50]) {
+    write_all(rt, b"sheets ");
+    print_decimal(rt, at.done as u64);
+    write_all(rt, b"\nanswers");
+    corpus::show(rt, &counts[..16]);
+    write_all(rt, b"\nkinds");
+    corpus::show(rt, &counts[16..48]);
+    write_all(rt, b"\nsequences ");
+    print_decimal(rt, counts[48]);
+    write_all(rt, b"\ndisagreements ");
+    print_decimal(rt, counts[49]);
+    write_all(rt, b"\n");
+    corpus::end(rt, at);
 }
 
 fn main(rt: HostRuntime) {
     let mut counts = room::<u64, 50>(0);
-    let at = corpus::run(
-        &rt,
-        &mut counts,
-        |name, counts| run_sheet(&rt, name, counts),
-    );
-    write_all(&rt, b"sheets ");
-    print_decimal(&rt, at.done as u64);
-    write_all(&rt, b"\nanswers");
-    corpus::show(&rt, &counts[..16]);
-    write_all(&rt, b"\nkinds");
-    corpus::show(&rt, &counts[16..48]);
-    write_all(&rt, b"\nsequences ");
-    print_decimal(&rt, counts[48]);
-    write_all(&rt, b"\ndisagreements ");
-    print_decimal(&rt, counts[49]);
-    write_all(&rt, b"\n");
-    corpus::end(&rt, at);
+    let at = corpus::run(&rt, &mut counts, |name, counts| {
+        let agreed = run_sheet(&rt, counts);
+        corpus::settle(&rt, counts, DISAGREEMENTS, agreed, name)
+    });
+    report(&rt, at, &counts);
 }

@@ -1,3 +1,4 @@
 -- What the contracts of the corpus cite.
 -- Assumes nothing.
 pub mod Numbers
+pub mod Progress

@@ -9,5 +9,5 @@ mod reports;
 
 pub use numbers::{answer_at, at, byte_at, long_answer_at, number_at};
 pub use outputs::{FRESH, all_bytes, all_numbers, left_by, lent, written};
-pub use records::{Progress, read_block, run};
+pub use records::{Progress, begin, behind, read_block, read_number, run};
 pub use reports::{add, end, report, settle, show};

@@ -1,5 +1,6 @@
 // The counts, and what is written of them.
-ghost use Rattle.std.specs.Prelude.{◌≡◌, ◌+◌, ◌%◌, ◌^◌, ◌≤◌, length, if◌then◌else◌, slice_index, slice_set};
+ghost use Rattle.std.specs.Prelude.{◌≡◌, ◌+◌, ◌%◌, ◌^◌, ◌≤◌, ◌&&◌, is_some, length, slice_index, slice_set};
+ghost use Rattle.corpus.specs.Progress.{disagreeing};
 
 use crate::records::Progress;
 use standard_streams::{print_decimal, write_all};
@@ -13,16 +14,26 @@ pub fn add(counts: &mut [u64], number: usize, more: u64)
     }
 }
 
-// Counts a record on which something disagrees, at the slot, and writes its name.
-pub fn settle(rt: &impl Print, counts: &mut [u64], slot: usize, agreed: bool, name: &[u8])
-    ensures { counts.new ≡ slice_set counts.old slot ((slice_index counts.old slot + (if agreed then 0 else 1)) % 2 ^ 64) }
+// Counts a record on which something disagrees, at the slot, and writes its name. Nothing is known to disagree on one that was cut off. Answers whether the name and
+// the rest were all there.
+pub fn settle(
+    rt: &impl Print,
+    counts: &mut [u64],
+    slot: usize,
+    agreed: Option<bool>,
+    name: Option<&[u8]>,
+) -> bool
+    ensures whole { result ≡ (is_some name.entry && is_some agreed) }
+    ensures counted { counts.new ≡ slice_set counts.old slot ((slice_index counts.old slot + disagreeing agreed) % 2 ^ 64) }
 {
-    if !agreed {
+    let disagrees = matches!(agreed, Some(false));
+    if disagrees {
         write_all(rt, b"disagreement: ");
-        write_all(rt, name);
+        write_all(rt, name.unwrap_or(b""));
         write_all(rt, b"\n");
     }
-    add(counts, slot, u64::from(!agreed));
+    add(counts, slot, u64::from(disagrees));
+    name.is_some() && agreed.is_some()
 }
 
 // How many bytes are left to read, two for more.

@@ -50,45 +50,28 @@ fn agrees(short: usize, sheet: &[u8], list: &[u8], expected: &[u8], counts: &mut
 
 // Reads the rest of a record, behind the block that says what is lent, explains and compares. So many times the first action stands before the others.
 // Nothing where it was cut off, or has no answer to compare with.
-fn run_list(
-    rt: &(impl Input + Print),
-    name: &[u8],
-    short: usize,
-    before: usize,
-    counts: &mut [u64],
-) -> Option<()>
+fn run_list(rt: &impl Input, short: usize, before: usize, counts: &mut [u64]) -> Option<bool>
     requires { before ≤ 65535 }
 {
     let mut sheet_room = room::<u8, 400>(0);
-    let mut rest_room = room::<u8, 65536>(0);
     let mut list_room = room::<u8, 66000>(0);
     let mut expected_room = room::<u8, 64>(0);
-    let sheet = corpus::read_block(rt, &mut sheet_room)?;
-    let rest = corpus::read_block(rt, &mut rest_room)?;
-    let expected = corpus::read_block(rt, &mut expected_room)?;
-    let end = before + rest.len();
-    if list_room.len() < end || expected.len() < 12 {
+    let sheet = corpus::read_block(rt, &mut sheet_room).ok()?;
+    let end = before + corpus::read_block(rt, &mut list_room[before..]).ok()?.len();
+    let expected = corpus::read_block(rt, &mut expected_room).ok()?;
+    if expected.len() < 12 {
         return None;
     }
-    list_room[before..end].copy_from_slice(rest);
-    let agreed = agrees(short, sheet, &list_room[..end], expected, counts);
-    corpus::settle(rt, counts, DISAGREEMENTS, agreed, name);
-    Some(())
+    Some(agrees(short, sheet, &list_room[..end], expected, counts))
 }
 
-// Runs a record, behind its name. Nothing where it was cut off.
-fn run_record(rt: &(impl Input + Print), name: &[u8], counts: &mut [u64]) -> Option<()> {
+// Runs a record, behind its name. Answers whether all of it was there.
+fn run_record(rt: &(impl Input + Print), name: Option<&[u8]>, counts: &mut [u64]) -> bool {
     let mut call_room = room::<u8, 64>(0);
     let called = corpus::read_block(rt, &mut call_room);
     let lent = called.unwrap_or(b"");
-    let ran = run_list(
-        rt,
-        name,
-        corpus::at(lent, 0),
-        corpus::number_at(lent, 1),
-        counts,
-    );
-    if lent.len() == 3 { ran } else { None }
+    let agreed = run_list(rt, corpus::at(lent, 0), corpus::number_at(lent, 1), counts);
+    corpus::settle(rt, counts, DISAGREEMENTS, agreed, name) && lent.len() == 3
 }
 
 fn main(rt: HostRuntime) {

@@ -14,7 +14,7 @@ mod verdicts;
 pub use bytes::{at, put, room};
 pub use checks::{find_areas, judge};
 pub use nodes::node_at;
-pub use verdicts::compare;
+pub use verdicts::{compare, compare_sheet};
 
 // A policy's mode.
 #[derive(Clone, Copy, PartialEq, Eq)]

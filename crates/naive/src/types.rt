@@ -1,7 +1,7 @@
 // Checks 6 and 7 of one node.
-ghost use Rattle.std.specs.Prelude.{◌<◌, IfOk, IfErr};
+ghost use Rattle.std.specs.Prelude.{◌≡◌, ◌<◌, IfSome, IfOk, IfErr};
 ghost use Rattle.naive.specs.Nodes.{check_number};
-ghost use Rattle.naive.specs.Types.{Bounded};
+ghost use Rattle.naive.specs.Types.{Bounded, Counted, CountedType, larger_of, sum_of};
 
 use crate::{Check, Formula, Mode, Node, Policy};
 
@@ -12,25 +12,46 @@ pub enum Type {
     Policy(Mode, Option<usize>),
 }
 
+// How far bounds are counted: this one stands for any that is larger. None past 65,534 is accepted.
+const COUNTED: usize = 1000000;
+
+// A bound, counted so far.
+fn counted(bound: Option<usize>) -> Option<usize>
+    ensures { Counted result }
+{
+    Some(bound?.min(COUNTED))
+}
+
 // The type of node n.
-fn part(types: &[Type], n: usize) -> Type {
-    types.get(n).copied().unwrap_or(Type::Formula)
+fn part(types: &[Type], n: usize) -> Type
+    ensures { CountedType result }
+{
+    match types.get(n).copied() {
+        Some(Type::Policy(mode, bound)) => Type::Policy(mode, counted(bound)),
+        _ => Type::Formula,
+    }
 }
 
 // The larger of two bounds.
-fn larger(k: Option<usize>, l: Option<usize>) -> Option<usize> {
+fn larger(k: Option<usize>, l: Option<usize>) -> Option<usize>
+    ensures { result ≡ larger_of k l }
+{
     Some(k?.max(l?))
 }
 
 // The sum of two bounds.
-fn sum(k: Option<usize>, l: Option<usize>) -> Option<usize> {
-    Some(k?.saturating_add(l?))
+fn sum(k: Option<usize>, l: Option<usize>) -> Option<usize>
+    ensures { result ≡ sum_of k l }
+{
+    Some(k?.saturating_add(l?).min(COUNTED))
 }
 
 // The mode and the bound of a policy from the types of its parts, or nothing where these do not fit.
-fn policy_type(policy: Policy, types: &[Type]) -> Option<(Mode, Option<usize>)> {
+fn policy_type(policy: Policy, types: &[Type]) -> Option<(Mode, Option<usize>)>
+    ensures { IfSome result (λ found. Counted found.1) }
+{
     match policy {
-        Policy::Count(k) => Some((Mode::Watched, Some(k))),
+        Policy::Count(k) => Some((Mode::Watched, counted(Some(k)))),
         Policy::Now(a) => match part(types, a) {
             Type::Formula => Some((Mode::Watched, Some(1))),
             _ => None,

@@ -2,6 +2,7 @@
 ghost use Rattle.std.specs.Prelude.{◌≤◌};
 
 use crate::bytes::{at, room};
+use crate::checks::judge;
 use crate::meanings::evaluate;
 use crate::sequences::{judged, spell, times};
 use crate::truths::TRUTHS;
@@ -49,11 +50,29 @@ fn compare_each(table: &[u8], truths: &[bool], sheet: &Sheet) -> Compared
     }
 }
 
-// Compares a table with the policy of a sheet that passes checks 1 to 7.
-pub fn compare(bytes: &[u8], sheet: &Sheet, table: &[u8]) -> Compared
+// Compares a table with the policy of a sheet that was judged.
+pub fn compare_sheet(bytes: &[u8], sheet: &Sheet, table: &[u8]) -> Compared
     ensures { (result.differing ≤ result.sequences) × (result.sequences ≤ 2048) }
 {
     let mut truths = room::<bool, TRUTHS>(false);
     evaluate(bytes, sheet, &mut truths);
     compare_each(table, &truths, sheet)
+}
+
+// Compares a table with the policy of a sheet that passes checks 1 to 7, of the mode with this number. On other bytes no sequence is judged.
+pub fn compare(bytes: &[u8], mode: usize, table: &[u8]) -> Compared
+    ensures { (result.differing ≤ result.sequences) × (result.sequences ≤ 2048) }
+{
+    let Ok(mut sheet) = judge(bytes) else {
+        return Compared {
+            sequences: 0,
+            differing: 0,
+        };
+    };
+    sheet.mode = if mode == Mode::Watched.number() {
+        Mode::Watched
+    } else {
+        Mode::Enforced
+    };
+    compare_sheet(bytes, &sheet, table)
 }

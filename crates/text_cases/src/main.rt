@@ -67,15 +67,15 @@ fn agrees(text: &[u8], actions: &[u8], lent: usize, expected: &[u8], counts: &mu
 
 // Reads the rest of a record, behind its name, and compares, where so much output is there to lend, and an answer to compare with. Nothing where it was cut
 // off.
-fn run_text(rt: &(impl Input + Print), name: &[u8], counts: &mut [u64]) -> Option<()> {
+fn run_text(rt: &impl Input, counts: &mut [u64]) -> Option<bool> {
     let mut size_room = room::<u8, 64>(0);
     let mut actions_room = room::<u8, 64>(0);
     let mut text_room = room::<u8, 3000>(0);
     let mut expected_room = room::<u8, OUTPUT>(0);
-    let size = corpus::read_block(rt, &mut size_room)?;
-    let actions = corpus::read_block(rt, &mut actions_room)?;
-    let text = corpus::read_block(rt, &mut text_room)?;
-    let expected = corpus::read_block(rt, &mut expected_room)?;
+    let size = corpus::read_block(rt, &mut size_room).ok()?;
+    let actions = corpus::read_block(rt, &mut actions_room).ok()?;
+    let text = corpus::read_block(rt, &mut text_room).ok()?;
+    let expected = corpus::read_block(rt, &mut expected_room).ok()?;
     if size.len() != 2 || actions.len() % 2 != 0 {
         return None;
     }
@@ -83,13 +83,14 @@ fn run_text(rt: &(impl Input + Print), name: &[u8], counts: &mut [u64]) -> Optio
     if OUTPUT < lent || expected.len() < 8 {
         return None;
     }
-    let agreed = agrees(text, actions, lent, expected, counts);
-    corpus::settle(rt, counts, DISAGREEMENTS, agreed, name);
-    Some(())
+    Some(agrees(text, actions, lent, expected, counts))
 }
 
 fn main(rt: HostRuntime) {
     let mut counts = room::<u64, 35>(0);
-    let at = corpus::run(&rt, &mut counts, |name, counts| run_text(&rt, name, counts));
+    let at = corpus::run(&rt, &mut counts, |name, counts| {
+        let agreed = run_text(&rt, counts);
+        corpus::settle(&rt, counts, DISAGREEMENTS, agreed, name)
+    });
     corpus::report(&rt, b"texts ", at, &counts[..34], counts[34]);
 }
