@@ -11,11 +11,17 @@ use lib.ListN.{length}
 use borrow.Author.Tests.{le-leb, lt-leb}
 use Rattle.fields.specs.Fields.{fields_from, between, EndsField}
 use Rattle.grammar.specs.Words.{Word}
-use Rattle.grammar.specs.Spelling.{token_of}
+use Rattle.grammar.specs.Spelling.{token_of, whether}
 use Rattle.grammar.specs.declared.Token.{Token}
 use Rattle.grammar.specs.declared.Token.TheVariants.{Watch, Enforce, Now, Holds, Count, Not, And, Or, Eventually, Always, Before, After, Fulfilling, Ignoring, True, False, Proposition, Number, Other}
 use Rattle.std.proofs.Common.{Some, None}
 use Rattle.action_lists.specs.ActionLists.{proposition_of, with_all}
+
+-- No proposition is empty.
+empty-none : (word : Word) → length word ≡ 0 → proposition_of (token_of word) ≡ 100
+unfolding proposition_of token_of whether
+empty-none [] h = refl
+empty-none (byte ∷ rest) h = absurd (omega arith)
 
 -- A token that is no proposition is read as none.
 pub not_proposition : (token : Token) → ((p : ℕ) → token ≡ Proposition p → ⊥) → proposition_of token ≡ 100

@@ -2,8 +2,8 @@
 -- Assumes nothing.
 use Rattle.std.specs.Prelude.{◌≡◌, Bool, true, false, cond, not, ◌&&◌, List, [], ◌∷◌, ℕ, suc, ◌+◌, ◌^◌, ◌≤◌, ◌<◌, eqb, leb, ltb, length, get_or, take, drop, Option, Some, None, Result, Ok, Err}
 use Rattle.std.specs.Int.Bits.{bit_or}
-use Rattle.fields.specs.Fields.{split_by}
-use Rattle.grammar.specs.Words.{Word}
+use Rattle.fields.specs.Fields.{split_by, between}
+use Rattle.grammar.specs.Words.{Word, words_of}
 use Rattle.grammar.specs.Spelling.{is_digit, is_plain, same, token_of}
 use Rattle.grammar.specs.declared.Token.{Token}
 use Rattle.grammar.specs.declared.Token.TheVariants.{Watch, Enforce, Now, Holds, Count, Not, And, Or, Eventually, Always, Before, After, Fulfilling, Ignoring, True, False, Proposition, Number, Other}
@@ -75,8 +75,17 @@ action_named (word ∷ words) name = cond (same (name_of word) name) 0 (suc (act
 unfoldable pub own_name : Word → Word
 own_name word = cond (is_name (name_of word)) (name_of word) []
 
+pub record NameTakes (word : Word) (end : ℕ) : Type 0 where
+  pub within : end ≤ length word
+  pub name : take end word ≡ own_name word
+
 abbrev pub name_at : List Word → ℕ → Word
 name_at words number = own_name (get_or words number [])
+
+pub record NameStands (list : List ℕ) (number from to : ℕ) : Type 0 where
+  pub onward : from ≤ to
+  pub within : to ≤ length list
+  pub name : between list from to ≡ name_at (words_of list) number
 
 -- The word of a number has a name, and the first word with that name is an earlier one.
 abbrev pub is_doubled : List Word → (word : Word) → (number : ℕ) → Bool

@@ -1,11 +1,11 @@
 // The names of actions.
 ghost use Rattle.std.specs.Prelude.{◌≡◌};
 ghost use Rattle.grammar.specs.Words.{words_of};
-ghost use Rattle.action_lists.specs.ActionLists.{all_plain, is_name, name_of, own_name, NameEnds, action_named, name_at};
+ghost use Rattle.action_lists.specs.ActionLists.{all_plain, is_name, name_of, NameEnds, NameTakes, action_named, name_at, NameStands};
 
-use fields::{find, front};
+use fields::{Span, find, front};
 use lexer::{pass_blanks, word_end};
-use positions::word_of;
+use positions::word_at;
 
 // Whether a word is of small letters and digits.
 fn all_plain(word: &[u8]) -> bool
@@ -61,18 +61,26 @@ pub fn action_named(list: &[u8], name: &[u8]) -> usize
     }
 }
 
-// The name of an action, where a word is the action's: nothing where it has no name.
-#[tactic(auto, unfolding(crate::specs::ActionLists::own_name))]
-fn own_name(word: &[u8]) -> &[u8]
-    ensures { result.now ≡ own_name word.now }
+// How many bytes the name of an action has, where a word is the action's: none where it has no name.
+fn name_length(word: &[u8]) -> usize
+    ensures { NameTakes word.now result }
 {
-    let name = name_of(word);
-    if is_name(name) { name } else { &[] }
+    let end = name_end(word);
+    if is_name(front(word, end)) { end } else { 0 }
 }
 
-// The name of the action of this number in a list: nothing where the action has none.
-pub fn name_at(list: &[u8], number: usize) -> &[u8]
+// Where the name of the action of this number stands in a list: nothing stands there where the action has none.
+pub fn name_at(list: &[u8], number: usize) -> Span
+    ensures { NameStands list.now number result.from result.to }
+{
+    let Span { from, to } = word_at(list, number);
+    let end = from + name_length(&list[from..to]);
+    Span { from, to: end }
+}
+
+// The bytes of that name.
+pub fn action_name(list: &[u8], number: usize) -> &[u8]
     ensures { result.now ≡ name_at (words_of list.now) number }
 {
-    own_name(word_of(list, number))
+    name_at(list, number).of(list)
 }

@@ -2,23 +2,25 @@
 #![tactic(auto)]
 
 mod message;
+mod numbered;
 
 ghost use Rattle.messages.specs.Adding.{Adds};
 ghost use Rattle.messages.specs.Message.{filled};
-ghost use Rattle.catalogue.specs.Numbers.{text_of};
+ghost use Rattle.catalogue.specs.Catalogue.{message_of};
 
 pub use message::Message;
+pub use numbered::Numbered;
 
-// Adds a message with its holes filled.
-pub fn add_message(
-    message: Message,
+// Adds a message, or what stands in the catalogue at a number, with its holes filled.
+pub fn add_message<M: Numbered>(
+    message: M,
     first: usize,
     second: usize,
     word: &[u8],
     text: &mut [u8],
     at: usize,
 ) -> usize
-    ensures { Adds text.old at (filled (text_of message) first second word.now) text.new result }
+    ensures { Adds text.old at (filled (message_of (M.number message)) first second word.now) text.new result }
 {
     message_lists::fill_listed(
         b"\

@@ -9,7 +9,6 @@ use Rattle.std.proofs.lemmas.List.Splits.{slice_split_first, slice_split_none, l
 use Rattle.std.proofs.lemmas.List.Sums.{prefix_len-le-length, prefix_len_passes}
 use Rattle.std.specs.List.{count_by}
 use native.Mathlib.Decide.{ℕ_discrete}
-use lib.Seq.{take-nil}
 use Rattle.fields.specs.Fields.{lengthen_first, split_by, fields_from, between, EndsField}
 
 abbrev pub is_mark : ℕ → ℕ → Bool

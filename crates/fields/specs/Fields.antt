@@ -1,6 +1,6 @@
 -- Bytes in fields: what stands between the bytes that are a mark. There is one more than there are marks, and any of them may be empty.
 -- Assumes nothing.
-use Rattle.std.specs.Prelude.{◌≡◌, Bool, true, cond, not, ◌&&◌, List, [], ◌∷◌, ◌++◌, ℕ, ◌+◌, ◌-◌, ◌≤◌, ◌<◌, eqb, length, take, drop}
+use Rattle.std.specs.Prelude.{◌≡◌, Bool, true, cond, not, ◌&&◌, List, [], ◌∷◌, ◌++◌, ℕ, ◌+◌, ◌-◌, ◌≤◌, ◌<◌, eqb, length, get_or, take, drop}
 
 -- a byte in front of the first field
 abbrev pub lengthen_first : ℕ → List (List ℕ) → List (List ℕ)
@@ -24,6 +24,12 @@ pub record EndsField (mark : ℕ) (bytes : List ℕ) (from to : ℕ) : Type 0 wh
   pub within : to ≤ length bytes
   pub more : to < length bytes → fields_from mark bytes from ≡ between bytes from to ∷ fields_from mark bytes (to + 1)
   pub last : to ≡ length bytes → fields_from mark bytes from ≡ between bytes from to ∷ []
+
+-- A field stands between two positions: the one of this number, or nothing where there is none.
+pub record FieldAt (mark : ℕ) (bytes : List ℕ) (number from to : ℕ) : Type 0 where
+  pub onward : from ≤ to
+  pub within : to ≤ length bytes
+  pub field : between bytes from to ≡ get_or (split_by mark bytes) number []
 
 -- Texts one after the other, each with a mark after it.
 abbrev pub each_marked : (mark : ℕ) → List (List ℕ) → List ℕ

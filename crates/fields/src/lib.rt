@@ -2,7 +2,7 @@
 #![tactic(auto)]
 
 ghost use Rattle.std.specs.Prelude.{◌≡◌, [], ◌+◌, ◌≤◌, ◌==◌, eqb, length, take, get_or, position};
-ghost use Rattle.fields.specs.Fields.{split_by, between, EndsField};
+ghost use Rattle.fields.specs.Fields.{split_by, between, EndsField, FieldAt};
 
 // Where something stands. It is empty where there is no such thing.
 #[derive(Clone, Copy)]
@@ -44,20 +44,27 @@ pub fn find(bytes: &[u8], from: usize, mark: u8) -> usize
     }
 }
 
-// The field of this number, from 0; nothing where there is none. By `split` and `nth` the goal `returns` did not close (`option_map .. nth.result`).
-pub fn field(bytes: &[u8], mark: u8, number: usize) -> &[u8]
-    ensures { result.now ≡ get_or (split_by mark bytes.now) number [] }
+// Where the field of this number stands, from 0: nothing stands there where there is none.
+pub fn field_at(bytes: &[u8], mark: u8, number: usize) -> Span
+    ensures { FieldAt mark bytes.now number result.from result.to }
 {
     let mut from = 0;
     for passed in 0..number {
         let end = find(bytes, from, mark);
         if end == bytes.len() {
-            return &[];
+            return Span { from: end, to: end };
         }
         from = end + 1;
     }
-    let end = find(bytes, from, mark);
-    &bytes[from..end]
+    let to = find(bytes, from, mark);
+    Span { from, to }
+}
+
+// The bytes of that field.
+pub fn field(bytes: &[u8], mark: u8, number: usize) -> &[u8]
+    ensures { result.now ≡ get_or (split_by mark bytes.now) number [] }
+{
+    field_at(bytes, mark, number).of(bytes)
 }
 
 // How many marks there are: the fields are one more.

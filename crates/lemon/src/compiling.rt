@@ -32,7 +32,9 @@ pub(crate) struct Made {
 }
 
 impl Made {
-    pub(crate) fn nothing() -> Made {
+    pub(crate) fn nothing() -> Made
+        ensures { (result.count ≡ 0) × (result.end ≡ 0) }
+    {
         Made {
             count: 0,
             end: 0,

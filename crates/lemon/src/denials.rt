@@ -8,7 +8,7 @@ use crate::told::{
     tell_denied, tell_denier, tell_number, tell_of_rule, tell_of_sheet, tell_refused,
     tell_wrong_listed,
 };
-use action_lists::{first_outside, name_at, read_list};
+use action_lists::{action_name, first_outside, read_list};
 use base::room;
 use catalogue::Message;
 use explaining::{Denial, ExplainError};
@@ -39,7 +39,7 @@ fn number_at(list: &[u8], place: usize) -> usize {
 // The denied action, with its name in the action list.
 fn tell_action(rt: &HostRuntime, list: &[u8], names: &[u8], denial: Denial) {
     let action = number_at(list, denial.place);
-    let name = name_at(names, action);
+    let name = action_name(names, action);
     tell_denied(rt, denial.place, denial.node, action, name);
 }
 

@@ -2,7 +2,7 @@
 -- Assumes nothing.
 use mathlib.Core.Path.{◌≡◌, refl, sym}
 use mathlib.Core.Bool.{not}
-use mathlib.Core.List.{List, [], ◌∷◌}
+use mathlib.Core.List.{List, [], ◌∷◌, ◌++◌}
 use Prim.Native.Nat.{ℕ, zero, suc, ◌<◌}
 use native.Mathlib.Omega.{arith}
 use borrow.Author.Tests.{ne_eqb}
@@ -11,7 +11,9 @@ use mathlib.Core.Logic.{◌⊎◌, inl, inr}
 use lib.ListN.{length, get_or, get_or-eq_default}
 use Rattle.messages.specs.Message.{filled}
 use Rattle.catalogue.specs.Catalogue.{rule_number, nothing_comes}
-use Rattle.told_messages.specs.Told.{rule_text, with_word, is_there, sheet_messages}
+use Rattle.catalogue.specs.Numbers.{number_of, text_of}
+use Rattle.catalogue.specs.declared.message.Message.{Message}
+use Rattle.told_messages.specs.Told.{rule_text, of_rule_text, place_text, of_word_text, with_word, is_there, sheet_messages}
 
 pub no-rule : (rule : ℕ) → rule ≡ 0 → [] ≡ rule_text rule
 unfolding rule_text
@@ -44,3 +46,11 @@ pub no_sheet : (number : ℕ) → (number ≡ 0) ⊎ (9 < number) → nothing_co
 unfolding nothing_comes
 no_sheet number (inl e) = rw e
 no_sheet number (inr h) = sym (get_or-eq_default sheet_messages [] h)
+
+-- what is told of a message by its name is what is told of its number
+module _ (rule : ℕ) (message : Message) where
+  of-message : (first second : ℕ) → of_rule_text rule (number_of message) first second ≡ rule_text rule ++ filled (text_of message) first second []
+  of-message first second = refl
+
+  word-message : (line number : ℕ) (word : List ℕ) → of_word_text rule line number (number_of message) word ≡ place_text rule line number ++ filled (text_of message) 0 0 word
+  word-message line number word = refl

@@ -4,9 +4,7 @@ use Rattle.std.specs.Prelude.{Bool, true, false, cond, List, [], ◌∷◌, ◌+
 use Rattle.grammar.specs.declared.Category.{Category}
 use Rattle.grammar.specs.declared.Category.TheVariants.{Text, Watched, Enforced, Formula, Number, End}
 use Rattle.messages.specs.Message.{filled}
-use Rattle.catalogue.specs.Catalogue.{refused_line, rule_number, line_and_word, rule_begins, watched_comes, enforced_comes, formula_comes, number_comes, nothing_comes, named_word, wrong_action, action_form, name_form, wrong_length, wrong_counts, wrong_areas, unknown_kind, wrong_field, wrong_type, long_bound, node_values, node_rows, wrong_listed, listed_numbers, listed_names, denied_at, action_number, action_name, denied_word}
-use Rattle.catalogue.specs.Numbers.{text_of}
-use Rattle.catalogue.specs.declared.message.Message.{Message}
+use Rattle.catalogue.specs.Catalogue.{refused_line, rule_number, line_and_word, rule_begins, watched_comes, enforced_comes, formula_comes, number_comes, nothing_comes, named_word, wrong_action, action_form, name_form, wrong_length, wrong_counts, wrong_areas, unknown_kind, wrong_field, wrong_type, long_bound, node_values, node_rows, wrong_listed, listed_numbers, listed_names, denied_at, action_number, action_name, denied_word, message_of}
 use Rattle.rule_messages.specs.Misfits.{any_between}
 use Rattle.told_messages.specs.Misfits.{misfit_text, strange_text}
 
@@ -20,16 +18,16 @@ rule_text zero = []
 rule_text (suc rule) = filled rule_number (suc rule) 0 []
 
 -- a message about a rule
-abbrev pub of_rule_text : (rule : ℕ) → Message → (first second : ℕ) → List ℕ
-of_rule_text rule message first second = rule_text rule ++ filled (text_of message) first second []
+abbrev pub of_rule_text : (rule message first second : ℕ) → List ℕ
+of_rule_text rule message first second = rule_text rule ++ filled (message_of message) first second []
 
 -- where a word stands: its line and its number in the rule, each from 1
 abbrev pub place_text : (rule line number : ℕ) → List ℕ
 place_text rule line number = rule_text rule ++ filled line_and_word line number []
 
 -- a message about a word of a rule
-abbrev pub of_word_text : (rule line number : ℕ) → Message → List ℕ → List ℕ
-of_word_text rule line number message word = place_text rule line number ++ filled (text_of message) 0 0 word
+abbrev pub of_word_text : (rule line number message : ℕ) → List ℕ → List ℕ
+of_word_text rule line number message word = place_text rule line number ++ filled (message_of message) 0 0 word
 
 -- what comes at a place
 unfoldable pub expected_message : Category → List ℕ

@@ -5,7 +5,7 @@ ghost use Rattle.catalogue.specs.Numbers.{text_of};
 ghost use Rattle.told_messages.specs.Told.{refused_text, rule_text, of_rule_text, place_text, of_word_text, expected_message, with_word, unreadable_text, wrong_action_text, sheet_messages, sheet_text, wrong_listed_text, denied_text};
 
 use crate::misfits::{misfit_message, strange_message};
-use catalogue::{Message, add_message};
+use catalogue::{Message, Numbered, add_message};
 use grammar::Category;
 use rule_messages::any_between;
 
@@ -34,31 +34,31 @@ fn add_rule(rule: usize, text: &mut [u8], at: usize) -> usize
 }
 
 // A message about a rule.
-pub fn add_of_rule(
+pub fn add_of_rule<M: Numbered>(
     rule: usize,
-    message: Message,
+    message: M,
     first: usize,
     second: usize,
     text: &mut [u8],
     at: usize,
 ) -> usize
-    ensures { Adds text.old at (of_rule_text rule message first second) text.new result }
+    ensures { Adds text.old at (of_rule_text rule (M.number message) first second) text.new result }
 {
     let next = add_rule(rule, text, at);
     add_message(message, first, second, b"", text, next)
 }
 
 // A message about a word of a rule: where it stands, and the message.
-pub fn add_of_word(
+pub fn add_of_word<M: Numbered>(
     rule: usize,
     line: usize,
     number: usize,
-    message: Message,
+    message: M,
     word: &[u8],
     text: &mut [u8],
     at: usize,
 ) -> usize
-    ensures { Adds text.old at (of_word_text rule line number message word.now) text.new result }
+    ensures { Adds text.old at (of_word_text rule line number (M.number message) word.now) text.new result }
 {
     let next = add_of_rule(rule, Message::LineAndWord, line, number, text, at);
     add_message(message, 0, 0, word, text, next)

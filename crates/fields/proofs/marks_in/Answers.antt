@@ -8,4 +8,4 @@ use Rattle.fields.proofs.marks_in.Goals as goal
 pub returns : goal.returns
 returns c =
     let n : c.count.result ≡ count_by (is_mark c.args.mark) c.args.bytes.now = search rules in
-    (rw n (fields-counted c.args.mark c.args.bytes.now), omega (arith, count_by-le-length (is_mark c.args.mark) c.args.bytes.now))
+    (omega (arith, n, fields-counted c.args.mark c.args.bytes.now), omega (arith, n, count_by-le-length (is_mark c.args.mark) c.args.bytes.now))

@@ -3,4 +3,4 @@ use Rattle.messages.proofs.Adding.{adds_then}
 use Rattle.told_messages.proofs.told.add_of_word.Goals as goal
 
 pub returns : goal.returns
-returns c = adds_then c.add_of_rule-next.ensures c.add_message.ensures
+returns g c = adds_then c.add_of_rule-next.ensures c.add_message.ensures

@@ -1,7 +1,7 @@
--- `fields::field` meets its contract. The loop's invariant: from `from` on the field after those that are left to pass is the one that is looked for.
+-- `fields::field_at` meets its contract. The loop's invariant: from `from` on the field after those that are left to pass is the one that is looked for.
 use Rattle.std.proofs.Common.{◌≡◌, [], ◌-◌, ◌≤◌, length, get_or}
 use Rattle.fields.specs.Fields.{split_by, fields_from}
-use Rattle.fields.proofs.field.Given as goal
+use Rattle.fields.proofs.field_at.Given as goal
 
 abbrev pub invariant-loop-passed : goal.invariant-loop-passed
 invariant-loop-passed l =
