@@ -1,2 +1,3 @@
 pub mod EqualParts
 pub mod NodeTypes
+pub mod Modes
