@@ -49,8 +49,8 @@ no_sheet number (inr h) = sym (get_or-eq_default sheet_messages [] h)
 
 -- what is told of a message by its name is what is told of its number
 module _ (rule : ℕ) (message : Message) where
-  of-message : (first second : ℕ) → of_rule_text rule (number_of message) first second ≡ rule_text rule ++ filled (text_of message) first second []
+  pub of-message : (first second : ℕ) → of_rule_text rule (number_of message) first second ≡ rule_text rule ++ filled (text_of message) first second []
   of-message first second = refl
 
-  word-message : (line number : ℕ) (word : List ℕ) → of_word_text rule line number (number_of message) word ≡ place_text rule line number ++ filled (text_of message) 0 0 word
+  pub word-message : (line number : ℕ) (word : List ℕ) → of_word_text rule line number (number_of message) word ≡ place_text rule line number ++ filled (text_of message) 0 0 word
   word-message line number word = refl
